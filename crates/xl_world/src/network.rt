@@ -1,6 +1,4 @@
 // The nodes of a world, and each event of a schedule in it.
-ghost use Rattle.std.specs.Prelude.{if◌then◌else◌};
-ghost use Rattle.xl_base.specs.Counts.{one_more};
 ghost use Rattle.xl_world.specs.Schedule.{event_asked, failing, node_asked};
 ghost use Rattle.xl_world.specs.Seen.{MayDo, deed_event};
 ghost use Rattle.std.specs.Prelude.{◌≡◌, ◌≤◌};
@@ -53,32 +51,17 @@ impl Model for Network {
 }
 
 impl Network {
-    ghost use Rattle.std.specs.Prelude.{◌≡◌, ◌≤◌, ◌++◌, length, option_copied, slice_get, Some, IfOk, OnOk};
+    ghost use Rattle.std.specs.Prelude.{◌≡◌, ◌≤◌, ◌++◌, length, option_copied, Some, IfOk, OnOk};
     ghost use Rattle.xl_base.specs.Moments.{greatest_millis};
     ghost use Rattle.xl_ledger.specs.Limits.{greatest_limit, least_limit};
-    ghost use Rattle.xl_sched.specs.Fits.{IsFitLied};
     ghost use Rattle.xl_world.specs.Plans.{AreDeclared, AreTimely};
     ghost use Rattle.xl_world.specs.Starts.{start};
-    ghost use Rattle.xl_world.specs.World.{core_in, marked, place_at, run};
+    ghost use Rattle.xl_world.specs.World.{core_in, place_at, run};
     ghost use Rattle.xl_world.specs.Emptying.{event_steps};
     ghost use Rattle.xl_world.specs.Ends.{Grows, cut_back, extent_of};
     ghost use Rattle.xl_world.specs.Rested.{IsAtRest, IsRested};
-    ghost use Rattle.xl_world.specs.Schedule.{
-      IsPlausible,
-      ask_steps,
-      cut_steps,
-      delivery_of,
-      event_asked,
-      greet_steps,
-      hand_steps,
-      lied_bytes,
-      node_asked,
-      outcomes_at,
-      steps_at,
-      timers,
-      told_in,
-    };
-    ghost use Rattle.xl_world.specs.Seen.{MayDo, deed_event, noted, outcomes_told, put_again, with_forged, with_places};
+    ghost use Rattle.xl_world.specs.Schedule.{IsPlausible, greet_steps, outcomes_at, steps_at, timers, told_in};
+    ghost use Rattle.xl_world.specs.Seen.{MayDo, deed_event, noted, outcomes_told, with_forged};
     ghost use Rattle.xl_world.specs.declared.place.Fate.TheVariants.{Saved};
 
     /// The network of a plan, at its start.

@@ -37,12 +37,10 @@ impl<B: Branch + Drop> Core<B> {
             self.old (event_for self.old deed.now) self.new answer.new keeper.old keeper.new }
     {
         match *deed {
-            Deed::Issue {
-                now,
-                seq,
-                id,
-                full,
-            } => tell_done(self.issue(now, seq, id, full, keeper), answer),
+            Deed::Issue { now, seq, id, full } => tell_done(
+                self.issue(now, seq, id, full, keeper),
+                answer,
+            ),
             Deed::Frame { now, bytes } => tell_taken(self.frame(now, bytes), answer),
             Deed::Sealed { now, bytes } => tell_taken(self.frame_as_sealed(now, bytes), answer),
             Deed::Timer { now } => *answer = CoreAnswer::Beats(self.timer(now, keeper)),

@@ -50,7 +50,7 @@ returns-in-Greet g c =
 pub returns-in-Relist : goal.returns-in-Relist
 returns-in-Relist g c =
     of_deed g.K.Keeper.held g.K.Keeper.saves g.K.Keeper.faults g.K.Keeper.save_gives c.args.self.now c.relist.new.self c.args.deed.now (deed.Relist c.in-Relist.now c.in-Relist.list) c.tell_done-in-Relist.new.answer c.args.keeper.now c.args.keeper.now c.in-Relist.is
-    (by_unasked g.K.Keeper.held g.K.Keeper.saves g.K.Keeper.faults g.K.Keeper.save_gives c.args.self.now c.relist.new.self (Relist c.in-Relist.now c.in-Relist.list.now) c.tell_done-in-Relist.new.answer c.args.keeper.now (done_answer c.relist.result) refl c.tell_done-in-Relist.ensures 
+    (by_unasked g.K.Keeper.held g.K.Keeper.saves g.K.Keeper.faults g.K.Keeper.save_gives c.args.self.now c.relist.new.self (Relist c.in-Relist.now c.in-Relist.list.now) c.tell_done-in-Relist.new.answer c.args.keeper.now (done_answer c.relist.result) refl c.tell_done-in-Relist.ensures
     (subst (λ (list : TrustedList). Answers (core_happens c.args.self.now (Relist c.in-Relist.now list) Kept) c.relist.new.self (done_answer c.relist.result)) c.copy.ensures c.relist.ensures.step) c.relist.ensures.stop)
 
 pub returns-in-Stop : goal.returns-in-Stop
