@@ -25,6 +25,9 @@ pub record IsFound (w u : World) (i k : ℕ) (p : Place) : Type 0 where
   pub first : position (λ p. p.core.node.me == i) u.places ≡ Some k
   pub there : p ≡ get_or u.places k p
 
+pub found_in : (w u : World) (i k : ℕ) (p : Place) (ps : List Place) → u ≡ w → Some k ≡ position (λ p. p.core.node.me == i) ps → ps ≡ u.places → p ≡ get_or u.places k p → IsFound w u i k p
+found_in w u i k p ps same found are there = record { same = same; first = sym (found ∙ ap (position (λ p. p.core.node.me == i)) are); there = there }
+
 pub found_place : (w u : World) (i k : ℕ) (p : Place) → IsFound w u i k p → place_at i w.places ≡ Some p
 found_place w u i k p found =
     ap (λ (v : World). place_at i v.places) (sym found.same) ∙ (found_there u.places i k p found.first ∙ ap (λ (x : Place). Some x) (sym found.there))

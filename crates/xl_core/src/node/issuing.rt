@@ -76,7 +76,8 @@ impl<B: Branch + Drop> Node<B> {
         ensures asks { IsAsked K.held K.saves K.faults K.save_gives
             (asks_for self.old seq) (was_kept result) keeper.old keeper.new }
     {
-        self.issue(self.time, seq, id, full, keeper)
+        let now = self.time;
+        self.issue(now, seq, id, full, keeper)
     }
 
     /// Issues the validation of a sequence that was saved. The own row takes it, if the node stands on its list.

@@ -7,11 +7,11 @@ use Rattle.xl_world.specs.Disk.{answer_of}
 use Rattle.xl_world.specs.Seen.{deed_event}
 use Rattle.xl_world.specs.World.{World, place_at}
 use Rattle.xl_world.specs.Worlds.{network_seen}
-use Rattle.xl_world.proofs.Acted.{IsActed, IsFound, absent, absent_ran, absent_told, acted_ran, acted_rest, acted_told, found_acted, found_may, found_place}
+use Rattle.xl_world.proofs.Acted.{IsActed, IsFound, found_in, absent, absent_ran, absent_told, acted_ran, acted_rest, acted_told, found_acted, found_may, found_place}
 use Rattle.xl_world.proofs.Acting.{deed_unsent}
 use Rattle.xl_world.proofs.Growing.{grows_from, grows_same}
 use Rattle.xl_world.proofs.network.Network.act.Goals as goal
-use Rattle.xl_world.proofs.network.Network.act.Goals.{After-happens, After-index_mut-place, In-None}
+use Rattle.xl_world.proofs.network.Network.act.Goals.{After-happens}
 
 abbrev event : After-happens → CoreEvent
 event c = deed_event c.args.i c.args.deed.now
@@ -20,25 +20,19 @@ event c = deed_event c.args.i c.args.deed.now
 abbrev after : After-happens → List Place
 after c = set c.self.inside.places.items c.in-Some.k c.happens.new.self
 
-found : (c : After-index_mut-place) → IsFound c.args.self.now (network_seen c.self.inside) c.args.i c.in-Some.k c.index_mut-place.result.now
-found c = record {
-  same = c.self.view_is;
-  first = sym (c.in-Some.ensures ∙ ap (position (λ p. p.core.node.me == c.args.i)) c.deref.ensures.value);
-  there = c.index_mut-place.ensures.value;
-}
+found : (c : After-happens) → IsFound c.args.self.now (network_seen c.self.inside) c.args.i c.in-Some.k c.index_mut-place.result.now
+found c = found_in c.args.self.now (network_seen c.self.inside) c.args.i c.in-Some.k c.index_mut-place.result.now c.deref.result.now c.self.view_is c.in-Some.ensures c.deref.ensures.value c.index_mut-place.ensures.value
 
 acted : (c : After-happens) → IsActed c.args.self.now c.args.i (event c) c.args.fate (after c) c.happens.new.answer
-acted c = found_acted c.args.self.now (network_seen c.self.inside) c.args.i c.in-Some.k c.index_mut-place.result.now c.args.deed.now c.args.fate c.happens.new.self c.happens.new.answer (found c.After-index_mut-place) c.happens.ensures.place c.happens.ensures.answer
+acted c = found_acted c.args.self.now (network_seen c.self.inside) c.args.i c.in-Some.k c.index_mut-place.result.now c.args.deed.now c.args.fate c.happens.new.self c.happens.new.answer (found c) c.happens.ensures.place c.happens.ensures.answer
 
 pub happens-requires-clause-rested : goal.happens-requires-clause-rested
 happens-requires-clause-rested c =
-    let d = (goal.at.happens-requires-clause-rested c).After-index_mut-place in
-    c.requires.rest.cores c.args.i _ (found_place c.args.self.now (network_seen c.self.inside) c.args.i c.in-Some.k c.index_mut-place.result.now (found d))
+    c.requires.rest.cores c.args.i _ (found_place c.args.self.now (network_seen c.self.inside) c.args.i c.in-Some.k c.index_mut-place.result.now (found_in c.args.self.now (network_seen c.self.inside) c.args.i c.in-Some.k c.index_mut-place.result.now c.deref.result.now c.self.view_is c.in-Some.ensures c.deref.ensures.value c.index_mut-place.ensures.value))
 
 pub happens-requires-clause-may : goal.happens-requires-clause-may
 happens-requires-clause-may c =
-    let d = (goal.at.happens-requires-clause-may c).After-index_mut-place in
-    found_may c.args.self.now (network_seen c.self.inside) c.args.i c.in-Some.k c.index_mut-place.result.now c.args.deed.now (found d) c.requires.may
+    found_may c.args.self.now (network_seen c.self.inside) c.args.i c.in-Some.k c.index_mut-place.result.now c.args.deed.now (found_in c.args.self.now (network_seen c.self.inside) c.args.i c.in-Some.k c.index_mut-place.result.now c.deref.result.now c.self.view_is c.in-Some.ensures c.deref.ensures.value c.index_mut-place.ensures.value) c.requires.may
 
 pub settle-requires : goal.settle-requires
 settle-requires c =

@@ -8,13 +8,13 @@ use Rattle.xl_world.specs.declared.place.Place.{Place}
 use Rattle.xl_world.specs.Disk.{answer_of, found as found_number, left_by, restored}
 use Rattle.xl_world.specs.Seen.{acted_at, deed_event, disk_in, noted, put_again, with_places}
 use Rattle.xl_world.specs.World.{World, place_at}
-use Rattle.xl_world.proofs.Acted.{IsActed, IsFound, absent, acted_rest, found_acted, found_may, found_place}
+use Rattle.xl_world.proofs.Acted.{IsActed, IsFound, found_in, absent, acted_rest, found_acted, found_may, found_place}
 use Rattle.xl_world.proofs.Acting.{deed_unsent}
 use Rattle.xl_world.proofs.Cutting.{any_ok, cuts_none, cuts_torn}
 use Rattle.xl_world.specs.Worlds.{network_seen}
 use Rattle.xl_world.proofs.Growing.{grows_from, grows_on, grows_same}
 use Rattle.xl_world.proofs.network.Network.cut.Goals as goal
-use Rattle.xl_world.proofs.network.Network.cut.Goals.{After-happens, After-index_mut-place}
+use Rattle.xl_world.proofs.network.Network.cut.Goals.{After-happens}
 
 abbrev number : After-happens → ℕ
 number c = c.asked_by-node.result.0
@@ -26,24 +26,19 @@ event c = deed_event c.asked_by-node.result.0 c.asked_by-node.result.1
 abbrev after : After-happens → List Place
 after c = set c.self.inside.places.items c.in-Some.k c.happens.new.self
 
-found : (c : After-index_mut-place) → IsFound c.args.self.now (network_seen c.self.inside) c.asked_by-node.result.0 c.in-Some.k c.index_mut-place.result.now
-found c = record {
-  same = c.self.view_is;
-  first = sym (c.in-Some.ensures ∙ ap (position (λ p. p.core.node.me == c.asked_by-node.result.0)) c.deref.ensures.value);
-  there = c.index_mut-place.ensures.value;
-}
+found : (c : After-happens) → IsFound c.args.self.now (network_seen c.self.inside) c.asked_by-node.result.0 c.in-Some.k c.index_mut-place.result.now
+found c = found_in c.args.self.now (network_seen c.self.inside) c.asked_by-node.result.0 c.in-Some.k c.index_mut-place.result.now c.deref.result.now c.self.view_is c.in-Some.ensures c.deref.ensures.value c.index_mut-place.ensures.value
 
 acted : (c : After-happens) → IsActed c.args.self.now (number c) (event c) Unwritten (after c) c.happens.new.answer
-acted c = found_acted c.args.self.now (network_seen c.self.inside) (number c) c.in-Some.k c.index_mut-place.result.now c.asked_by-node.result.1 Unwritten c.happens.new.self c.happens.new.answer (found c.After-index_mut-place) c.happens.ensures.place c.happens.ensures.answer
+acted c = found_acted c.args.self.now (network_seen c.self.inside) (number c) c.in-Some.k c.index_mut-place.result.now c.asked_by-node.result.1 Unwritten c.happens.new.self c.happens.new.answer (found c) c.happens.ensures.place c.happens.ensures.answer
 
 -- its disk before it
 held : (c : After-happens) → Some c.index_mut-place.result.now.disk ≡ disk_in (number c) c.args.self.now.places
-held c = sym (ap (option_map (λ (p : Place). p.disk)) (found_place c.args.self.now (network_seen c.self.inside) (number c) c.in-Some.k c.index_mut-place.result.now (found c.After-index_mut-place)))
+held c = sym (ap (option_map (λ (p : Place). p.disk)) (found_place c.args.self.now (network_seen c.self.inside) (number c) c.in-Some.k c.index_mut-place.result.now (found c)))
 
 pub happens-requires-clause-rested : goal.happens-requires-clause-rested
 happens-requires-clause-rested c =
-    let d = (goal.at.happens-requires-clause-rested c).After-index_mut-place in
-    c.requires.rest.cores c.asked_by-node.result.0 _ (found_place c.args.self.now (network_seen c.self.inside) c.asked_by-node.result.0 c.in-Some.k c.index_mut-place.result.now (found d))
+    c.requires.rest.cores c.asked_by-node.result.0 _ (found_place c.args.self.now (network_seen c.self.inside) c.asked_by-node.result.0 c.in-Some.k c.index_mut-place.result.now (found_in c.args.self.now (network_seen c.self.inside) c.asked_by-node.result.0 c.in-Some.k c.index_mut-place.result.now c.deref.result.now c.self.view_is c.in-Some.ensures c.deref.ensures.value c.index_mut-place.ensures.value))
 
 pub happens-requires-clause-may : goal.happens-requires-clause-may
 happens-requires-clause-may c = c.asked_by-node.ensures.may c.index_mut-place.result.now.core.node.me

@@ -15,13 +15,13 @@ use Rattle.xl_world.specs.Schedule.{hand_steps, lied_body, lied_bytes, told_in}
 use Rattle.xl_world.specs.Seen.{with_forged}
 use Rattle.xl_world.specs.World.{World, place_at, run}
 use Rattle.xl_world.specs.Worlds.{network_seen}
-use Rattle.xl_world.proofs.Acted.{IsActed, IsFound, absent, absent_ran, absent_told, acted_ran, acted_rest, acted_told, found_acted, found_place}
+use Rattle.xl_world.proofs.Acted.{IsActed, IsFound, found_in, absent, absent_ran, absent_told, acted_ran, acted_rest, acted_told, found_acted, found_place}
 use Rattle.xl_world.proofs.Acting.{fair_ran}
 use Rattle.xl_world.proofs.CoreSteps.{frame_plain}
 use Rattle.xl_world.proofs.Growing.{grows_from, grows_same}
 use Rattle.xl_world.proofs.Liars.{lie_fair}
 use Rattle.xl_world.proofs.network.Network.lie.Goals as goal
-use Rattle.xl_world.proofs.network.Network.lie.Goals.{After-happens, After-index_mut-receiver}
+use Rattle.xl_world.proofs.network.Network.lie.Goals.{After-happens}
 
 -- the blank frame
 abbrev kept : After-happens → List ℕ
@@ -55,20 +55,15 @@ heard_ran c =
 abbrev after : After-happens → List Place
 after c = set c.self.inside.places.items c.in-Some.k c.happens.new.self
 
-found : (c : After-index_mut-receiver) → IsFound c.args.self.now (network_seen c.self.inside) c.args.to c.in-Some.k c.index_mut-receiver.result.now
-found c = record {
-  same = c.self.view_is;
-  first = sym (c.in-Some.ensures ∙ ap (position (λ p. p.core.node.me == c.args.to)) c.deref-2.ensures.value);
-  there = c.index_mut-receiver.ensures.value;
-}
+found : (c : After-happens) → IsFound c.args.self.now (network_seen c.self.inside) c.args.to c.in-Some.k c.index_mut-receiver.result.now
+found c = found_in c.args.self.now (network_seen c.self.inside) c.args.to c.in-Some.k c.index_mut-receiver.result.now c.deref-2.result.now c.self.view_is c.in-Some.ensures c.deref-2.ensures.value c.index_mut-receiver.ensures.value
 
 acted : (c : After-happens) → IsActed c.args.self.now c.args.to (event c) Saved (after c) c.happens.new.answer
-acted c = found_acted c.args.self.now (network_seen c.self.inside) c.args.to c.in-Some.k c.index_mut-receiver.result.now (Sealed c.args.at (record { now = kept c })) Saved c.happens.new.self c.happens.new.answer (found c.After-index_mut-receiver) c.happens.ensures.place c.happens.ensures.answer
+acted c = found_acted c.args.self.now (network_seen c.self.inside) c.args.to c.in-Some.k c.index_mut-receiver.result.now (Sealed c.args.at (record { now = kept c })) Saved c.happens.new.self c.happens.new.answer (found c) c.happens.ensures.place c.happens.ensures.answer
 
 pub happens-requires-clause-rested : goal.happens-requires-clause-rested
 happens-requires-clause-rested c =
-    let d = (goal.at.happens-requires-clause-rested c).After-index_mut-receiver in
-    c.requires.rest.cores c.args.to _ (found_place c.args.self.now (network_seen c.self.inside) c.args.to c.in-Some.k c.index_mut-receiver.result.now (found d))
+    c.requires.rest.cores c.args.to _ (found_place c.args.self.now (network_seen c.self.inside) c.args.to c.in-Some.k c.index_mut-receiver.result.now (found_in c.args.self.now (network_seen c.self.inside) c.args.to c.in-Some.k c.index_mut-receiver.result.now c.deref-2.result.now c.self.view_is c.in-Some.ensures c.deref-2.ensures.value c.index_mut-receiver.ensures.value))
 
 pub settle-requires : goal.settle-requires
 settle-requires c =
