@@ -10,9 +10,10 @@ use Rattle.xl_world.specs.declared.place.Place.{Place}
 use Rattle.xl_world.specs.Emptying.{event_steps}
 use Rattle.xl_world.specs.Schedule.{told_in}
 use Rattle.xl_world.specs.Rested.{IsAtRest, IsRested}
-use Rattle.xl_world.specs.Seen.{Answers, AnswersAt, IsAnswer, MayDo, acted_at, deed_event, noted, outcomes_told, place_after, put_acted, with_forged, with_places}
+use Rattle.xl_world.specs.Seen.{Answers, AnswersAt, IsAnswer, MayDo, acted_at, deed_event, noted, outcomes_told, place_after, with_forged, with_places}
 use Rattle.xl_world.specs.World.{World, place_at, reply_at, run, sent_in}
-use Rattle.xl_world.proofs.Acting.{acted_rests, noted_ran, nothing_ran}
+use Rattle.xl_world.proofs.Acting.{acted_rests, noted_ran}
+use Rattle.xl_world.proofs.Emptying.{emptied_acts, event_ran}
 use Rattle.xl_world.proofs.Places.{acted_there, answered_there, found_there, none_there}
 use Rattle.xl_world.proofs.Settling.{at_its_number}
 use Rattle.xl_world.proofs.Telling.{told_nothing, told_ran}
@@ -71,13 +72,16 @@ acted_told w i e fate after a acted = told_ran w i e fate a acted.answer
 
 -- NO PLACE
 
-pub absent : (w u : World) (i : ℕ) → u ≡ w → None ≡ position (λ p. p.core.node.me == i) u.places → place_at i w.places ≡ None
-absent w u i same none = ap (λ (v : World). place_at i v.places) (sym same) ∙ none_there u.places i (sym none)
+pub absent : (w u : World) (i : ℕ) (ps : List Place) → u ≡ w → position (λ p. p.core.node.me == i) ps ≡ None → ps ≡ u.places → place_at i w.places ≡ None
+absent w u i ps same none are =
+    ap (λ (v : World). place_at i v.places) (sym same) ∙ (ap (place_at i) (sym are) ∙ none_there ps i none)
 
 -- nothing happens there
+pub absent_stays : (w : World) (i : ℕ) (e : CoreEvent) (fate : Fate) → place_at i w.places ≡ None → w ≡ run w (event_steps w i e fate)
+absent_stays w i e fate none = sym (event_ran w i e fate ∙ ap (emptied_acts w i e fate) none)
+
 pub absent_ran : (w : World) (i : ℕ) (e : CoreEvent) (fate : Fate) → place_at i w.places ≡ None → w ≡ with_forged w.forged (run w (event_steps w i e fate))
-absent_ran w i e fate none =
-    ap (λ (o : Option Place). with_places w (put_acted e fate o w.places)) (sym none) ∙ nothing_ran w i e fate (subst (λ (o : Option Place). Answers e fate o None) (sym none) tt)
+absent_ran w i e fate none = ap (λ (v : World). with_forged w.forged v) (absent_stays w i e fate none)
 
 -- and nothing is told
 pub absent_told : (w : World) (i : ℕ) (e : CoreEvent) (fate : Fate) → place_at i w.places ≡ None → told_in w (event_steps w i e fate) ≡ []

@@ -1,5 +1,5 @@
 -- What a node issues rises, over all its lives, whatever its saves are answered.
-use Rattle.std.proofs.Common.{◌≡◌, ℕ, ◌<◌, ◌≤◌, Bool, true, false, cond, List, [], ◌∷◌, ◌++◌, append_assoc, refl, arith, sym, ◌∙◌, subst, inl, inr, Some, None}
+use Rattle.std.proofs.Common.{◌≡◌, ℕ, ◌<◌, ◌≤◌, Bool, true, false, cond, List, [], ◌∷◌, ◌++◌, append_assoc, refl, arith, sym, ◌∙◌, subst, inl, inr, Some, None, ap}
 use Rattle.std.specs.Prelude.{◌==◌, ◌&&◌, IsTrue, IfSome, nat_lt, option_map, option_to_list}
 use Rattle.std.specs.declared.option.Option.{Option}
 use Rattle.std.proofs.lemmas.Bool.{and_parts, or_cases, eqb-true, ltb-true}

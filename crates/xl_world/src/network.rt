@@ -51,7 +51,7 @@ impl Model for Network {
 }
 
 impl Network {
-    ghost use Rattle.std.specs.Prelude.{◌≡◌, ◌≤◌, ◌++◌, length, option_copied, Some, IfOk, OnOk};
+    ghost use Rattle.std.specs.Prelude.{◌≡◌, ◌≤◌, ◌++◌, [], length, option_copied, Some, IfOk, OnOk};
     ghost use Rattle.xl_base.specs.Moments.{greatest_millis};
     ghost use Rattle.xl_ledger.specs.Limits.{greatest_limit, least_limit};
     ghost use Rattle.xl_world.specs.Plans.{AreDeclared, AreTimely};
@@ -60,7 +60,7 @@ impl Network {
     ghost use Rattle.xl_world.specs.Emptying.{event_steps};
     ghost use Rattle.xl_world.specs.Ends.{Grows, cut_back, extent_of};
     ghost use Rattle.xl_world.specs.Rested.{IsAtRest, IsRested};
-    ghost use Rattle.xl_world.specs.Schedule.{IsPlausible, greet_steps, outcomes_at, steps_at, timers, told_in};
+    ghost use Rattle.xl_world.specs.Schedule.{IsPlausible, ask_steps, greet_steps, outcomes_at, steps_at, timers, told_in};
     ghost use Rattle.xl_world.specs.Seen.{MayDo, deed_event, noted, outcomes_told, with_forged};
     ghost use Rattle.xl_world.specs.declared.place.Fate.TheVariants.{Saved};
 
@@ -138,6 +138,26 @@ impl Network {
         self.settle(i, answer, told)
     }
 
+    /// A node is asked something, and its save, if any, meets a fate.
+    fn ask(
+        &mut self,
+        at: Millis,
+        ask: &Ask,
+        fate: Fate,
+        answer: &mut NodeAnswer,
+        told: &mut Vec<Outcome>,
+    ) -> Result<(), OutOfMemory>
+        requires moment { at ≤ greatest_millis }
+        requires rest { IsAtRest self.old }
+        ensures world { OnOk result (self.new ≡ run self.old (ask_steps self.old at ask.now fate)) }
+        ensures told { OnOk result (told.new.items
+            ≡ told.old.items ++ told_in self.old (ask_steps self.old at ask.now fate)) }
+        ensures grows { Grows self.old self.new }
+    {
+        let (node, deed) = asked_by(at, ask);
+        self.act(node, &deed, fate, answer, told)
+    }
+
     /// A timer comes to each node, by rising number.
     fn timers(
         &mut self,
@@ -154,7 +174,7 @@ impl Network {
     {
         for k in 0..self.numbers.as_slice().len() {
             let node = self.numbers.as_slice()[k];
-            self.act(node, &Deed::Timer { now: at }, Fate::Saved, answer, told)?;
+            self.ask(at, &Ask::Timer { node }, Fate::Saved, answer, told)?;
         }
         Ok(())
     }
@@ -200,6 +220,7 @@ impl Network {
         ensures grows { Grows self.old self.new }
     {
         match what {
+            // As `ask`, without its call: this comes most often.
             What::Ask(ask) => {
                 let (node, deed) = asked_by(at, ask);
                 self.act(node, &deed, Fate::Saved, answer, told)
@@ -224,10 +245,7 @@ impl Network {
             }
             What::Restart { node } => self.restart(at, *node),
             What::Cut { new, ask } => self.cut(at, *new, ask, answer, told),
-            What::Fail { new, ask } => {
-                let (node, deed) = asked_by(at, ask);
-                self.act(node, &deed, failing(*new), answer, told)
-            }
+            What::Fail { new, ask } => self.ask(at, ask, failing(*new), answer, told),
             What::Lie { from, to, what } => self.lie(at, *from, *to, what, answer, told),
             What::Raw { to, bytes } => self.hand_in(at, *to, bytes.as_slice(), answer, told),
             What::Prefer { node } => push_some(told, preferred_at(&self.places, *node)),
@@ -244,6 +262,13 @@ impl Network {
         ensures { option_copied result ≡ core_in self.now node }
     {
         core_at(&self.places, node)
+    }
+
+    /// A place for what is told, in which nothing is yet.
+    pub fn nothing_told(&self) -> Vec<Outcome>
+        ensures { result.items ≡ [] }
+    {
+        Vec::new(self.alloc)
     }
 
     /// How much it has told.

@@ -81,7 +81,7 @@ impl World {
             return Err(OutOfMemory);
         }
         let before = self.network.extent();
-        let mut told = Vec::new(self.network.alloc);
+        let mut told = self.network.nothing_told();
         match self
             .network
             .happen(event.at, &event.what, &mut self.answer, &mut told)

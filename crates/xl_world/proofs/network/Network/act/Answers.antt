@@ -1,15 +1,15 @@
-use Rattle.std.proofs.Common.{◌≡◌, ◌++◌, ◌∙◌, List, [], ap, append-nil, set, subst, sym}
+use Rattle.std.proofs.Common.{rules, ◌≡◌, ◌++◌, ◌∙◌, List, None, ap, append-nil, set, subst, sym}
 use Rattle.std.specs.Prelude.{◌==◌, OnOk, position}
 use Rattle.xl_core.specs.declared.event.CoreEvent.{CoreEvent}
 use Rattle.xl_world.specs.declared.outcome.Outcome.{Outcome}
 use Rattle.xl_world.specs.declared.place.Place.{Place}
 use Rattle.xl_world.specs.Disk.{answer_of}
 use Rattle.xl_world.specs.Seen.{deed_event}
-use Rattle.xl_world.specs.World.{World, place_at}
+use Rattle.xl_world.specs.World.{World}
 use Rattle.xl_world.specs.Worlds.{network_seen}
 use Rattle.xl_world.proofs.Acted.{IsActed, IsFound, found_in, absent, absent_ran, absent_told, acted_ran, acted_rest, acted_told, found_acted, found_may, found_place}
 use Rattle.xl_world.proofs.Acting.{deed_unsent}
-use Rattle.xl_world.proofs.Growing.{grows_from, grows_same}
+use Rattle.xl_world.proofs.Growing.{grows_from}
 use Rattle.xl_world.proofs.network.Network.act.Goals as goal
 use Rattle.xl_world.proofs.network.Network.act.Goals.{After-happens}
 
@@ -60,3 +60,15 @@ returns-clause-grows c =
     grows_from c.args.self.now (network_seen c.self.inside) c.settle.new.self (after d) c.self.view_is c.settle.ensures.grows
 
 -- nobody has the number
+pub returns-in_default-clause-world : goal.returns-in_default-clause-world
+returns-in_default-clause-world c =
+    let none : position (λ p. p.core.node.me == c.args.i) c.deref.result.now ≡ None = search rules in
+    absent_ran c.args.self.now c.args.i (deed_event c.args.i c.args.deed.now) c.args.fate (absent c.args.self.now (network_seen c.self.inside) c.args.i c.deref.result.now c.self.view_is none c.deref.ensures.value)
+
+pub returns-in_default-clause-told : goal.returns-in_default-clause-told
+returns-in_default-clause-told c =
+    let none : position (λ p. p.core.node.me == c.args.i) c.deref.result.now ≡ None = search rules in
+    let told : List Outcome = c.args.told.now.items in
+    sym (append-nil told)
+    ∙ ap (λ (os : List Outcome). told ++ os)
+    (sym (absent_told c.args.self.now c.args.i (deed_event c.args.i c.args.deed.now) c.args.fate (absent c.args.self.now (network_seen c.self.inside) c.args.i c.deref.result.now c.self.view_is none c.deref.ensures.value)))

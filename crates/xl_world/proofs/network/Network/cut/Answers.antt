@@ -1,4 +1,4 @@
-use Rattle.std.proofs.Common.{◌≡◌, ◌++◌, ◌∙◌, ℕ, List, Option, Some, ap, set, subst, sym}
+use Rattle.std.proofs.Common.{rules, ◌≡◌, ◌++◌, ◌∙◌, ℕ, List, [], Some, None, ap, append-nil, set, subst, sym}
 use Rattle.std.specs.Prelude.{◌==◌, OnOk, option_map, position}
 use Rattle.xl_core.specs.declared.event.CoreEvent.{CoreEvent}
 use Rattle.xl_world.specs.declared.outcome.Outcome.{Outcome}
@@ -7,14 +7,16 @@ use Rattle.xl_world.specs.declared.place.Disk.{Disk}
 use Rattle.xl_world.specs.declared.place.Place.{Place}
 use Rattle.xl_world.specs.Disk.{answer_of, found as found_number, left_by, restored}
 use Rattle.xl_world.specs.Seen.{acted_at, deed_event, disk_in, noted, put_again, with_places}
-use Rattle.xl_world.specs.World.{World, place_at}
-use Rattle.xl_world.proofs.Acted.{IsActed, IsFound, found_in, absent, acted_rest, found_acted, found_may, found_place}
+use Rattle.xl_world.specs.Schedule.{steps_at, told_in}
+use Rattle.xl_world.specs.World.{World, Step, place_at, run}
+use Rattle.xl_sched.specs.declared.event.What.TheVariants.{Cut}
+use Rattle.xl_world.proofs.Acted.{IsActed, IsFound, found_in, absent, acted_rest, found_acted, found_place}
 use Rattle.xl_world.proofs.Acting.{deed_unsent}
-use Rattle.xl_world.proofs.Cutting.{any_ok, cuts_none, cuts_torn}
+use Rattle.xl_world.proofs.Cutting.{any_ok, cuts_none, cuts_nowhere, cuts_torn}
 use Rattle.xl_world.specs.Worlds.{network_seen}
-use Rattle.xl_world.proofs.Growing.{grows_from, grows_on, grows_same}
+use Rattle.xl_world.proofs.Growing.{grows_from, grows_on}
 use Rattle.xl_world.proofs.network.Network.cut.Goals as goal
-use Rattle.xl_world.proofs.network.Network.cut.Goals.{After-happens}
+use Rattle.xl_world.proofs.network.Network.cut.Goals.{After-happens, In_default}
 
 abbrev number : After-happens → ℕ
 number c = c.asked_by-node.result.0
@@ -101,6 +103,32 @@ returns-in_ok-settle-in-None-clause-told c =
     cuts_none w v at c.args.new c.args.ask.now i (event d) Unwritten kept a c.asked_by-node.ensures.node (c.asked_by-node.ensures.deed i) (held d) (acted d).answer c.in-None.is
     (λ p from. deed_unsent p.core i c.asked_by-node.result.1 (answer_of p.disk Unwritten) from) settled in
     any_ok _ c.reopen-in-None.result (c.in_ok-settle-in-None.ensures.told ∙ ap (λ (os : List Outcome). c.args.told.now.items ++ os) uncut.tells)
+
+pub returns-in-Some-asked-clause-told : goal.returns-in-Some-asked-clause-told
+returns-in-Some-asked-clause-told c =
+    let d = (goal.at.returns-in-Some-asked-clause-told c).After-happens in
+    let told : List Outcome = c.args.told.now.items in
+    let torn =
+    cuts_torn c.args.self.now c.args.at c.args.new c.args.ask.now c.asked_by-node.result.0 (event d) Unwritten c.index_mut-place.result.now.disk c.happens.new.answer c.in-Some-asked.seq c.asked_by-node.ensures.node
+    (c.asked_by-node.ensures.deed c.asked_by-node.result.0) (held d) (acted d).answer c.in-Some-asked.is in
+    any_ok _ c.reopen.result (sym (append-nil told) ∙ ap (λ (os : List Outcome). told ++ os) torn.tells)
+
+-- there is no node of the number
+nowhere : (c : In_default) → steps_at c.args.self.now c.args.at (Cut c.args.new c.args.ask.now) ≡ []
+nowhere c =
+    let w : World = c.args.self.now in
+    let i = c.asked_by-node.result.0 in
+    let none : position (λ p. p.core.node.me == i) c.deref.result.now ≡ None = search rules in
+    cuts_nowhere w c.args.at c.args.new c.args.ask.now i c.asked_by-node.ensures.node
+    (sym (ap (option_map (λ (p : Place). p.disk)) (absent w (network_seen c.self.inside) i c.deref.result.now c.self.view_is none c.deref.ensures.value)))
+
+pub returns-in_default-clause-world : goal.returns-in_default-clause-world
+returns-in_default-clause-world c = sym (ap (run c.args.self.now) (nowhere ((goal.at.returns-in_default-clause-world c).In_default)))
+
+pub returns-in_default-clause-told : goal.returns-in_default-clause-told
+returns-in_default-clause-told c =
+    let told : List Outcome = c.args.told.now.items in
+    sym (append-nil told) ∙ ap (λ (ss : List Step). told ++ told_in c.args.self.now ss) (sym (nowhere ((goal.at.returns-in_default-clause-told c).In_default)))
 
 -- WHAT WAS TOLD STAYS
 

@@ -1,4 +1,4 @@
-use Rattle.std.proofs.Common.{◌≡◌, ◌++◌, ◌∙◌, ℕ, List, [], Option, Some, ap, append-nil, refl, set, subst, sym, take}
+use Rattle.std.proofs.Common.{rules, ◌≡◌, ◌++◌, ◌∙◌, ℕ, List, Option, Some, None, ap, append-nil, arith, length, set, subst, sym, take}
 use Rattle.std.specs.Prelude.{◌==◌, OnOk, position, slice_get}
 use Rattle.xl_core.specs.declared.event.CoreEvent.{CoreEvent}
 use Rattle.xl_core.specs.declared.event.CoreEvent.TheVariants.{Frame}
@@ -14,11 +14,12 @@ use Rattle.xl_world.specs.Seen.{with_forged}
 use Rattle.xl_world.specs.World.{World, place_at, run}
 use Rattle.xl_tags.specs.Rings.{schedule_ring}
 use Rattle.xl_core.specs.Hearing.{bytes_as_sealed}
-use Rattle.xl_world.proofs.Acted.{IsActed, IsFound, found_in, absent, absent_ran, absent_told, acted_ran, acted_rest, acted_told, found_acted, found_place}
+use Rattle.xl_world.proofs.Acted.{IsActed, IsFound, found_in, absent, absent_stays, absent_told, acted_ran, acted_rest, acted_told, found_acted, found_place}
 use Rattle.xl_world.proofs.Acting.{sent_ran}
 use Rattle.xl_world.proofs.CoreSteps.{frame_plain}
+use Rattle.xl_world.proofs.Places.{found_within}
 use Rattle.xl_world.specs.Worlds.{network_seen}
-use Rattle.xl_world.proofs.Growing.{grows_from, grows_same}
+use Rattle.xl_world.proofs.Growing.{grows_from}
 use Rattle.xl_world.proofs.network.Network.deliver.Goals as goal
 use Rattle.xl_world.proofs.network.Network.deliver.Goals.{After-happens}
 
@@ -90,3 +91,31 @@ pub returns-clause-grows : goal.returns-clause-grows
 returns-clause-grows c =
     let d = (goal.at.returns-clause-grows c).After-happens in
     grows_from c.args.self.now (network_seen c.self.inside) c.settle.new.self (after d) c.self.view_is c.settle.ensures.grows
+
+-- nobody has its receiver's number
+pub returns-in_default-position_of-clause-world : goal.returns-in_default-position_of-clause-world
+returns-in_default-position_of-clause-world c =
+    let w : World = c.args.self.now in
+    let f : Sent = c.in-Some.frame in
+    let is_sent : slice_get w.sent c.args.place ≡ Some f = ap (λ (w : World). slice_get w.sent c.args.place) (sym c.self.view_is) ∙ sym c.in-Some.ensures in
+    let none : position (λ p. p.core.node.me == c.to-to.result) c.deref.result.now ≡ None = search rules in
+    let nobody : place_at f.to w.places ≡ None =
+    ap (λ (m : ℕ). place_at m w.places) (sym c.to-to.ensures) ∙ absent w (network_seen c.self.inside) c.to-to.result c.deref.result.now c.self.view_is none c.deref.ensures.value in
+    absent_stays w f.to (Frame c.args.at f.bytes) Saved nobody ∙ ap (λ (o : Option Sent). run w (delivery_of w c.args.at o)) (sym is_sent)
+
+pub returns-in_default-position_of-clause-told : goal.returns-in_default-position_of-clause-told
+returns-in_default-position_of-clause-told c =
+    let w : World = c.args.self.now in
+    let f : Sent = c.in-Some.frame in
+    let told : List Outcome = c.args.told.now.items in
+    let is_sent : slice_get w.sent c.args.place ≡ Some f = ap (λ (w : World). slice_get w.sent c.args.place) (sym c.self.view_is) ∙ sym c.in-Some.ensures in
+    let none : position (λ p. p.core.node.me == c.to-to.result) c.deref.result.now ≡ None = search rules in
+    let nobody : place_at f.to w.places ≡ None =
+    ap (λ (m : ℕ). place_at m w.places) (sym c.to-to.ensures) ∙ absent w (network_seen c.self.inside) c.to-to.result c.deref.result.now c.self.view_is none c.deref.ensures.value in
+    sym (append-nil told)
+    ∙ ap (λ (os : List Outcome). told ++ os) (sym (ap (λ (o : Option Sent). told_in w (delivery_of w c.args.at o)) is_sent ∙ absent_told w f.to (Frame c.args.at f.bytes) Saved nobody))
+
+pub index_mut-receiver-requires : goal.index_mut-receiver-requires
+index_mut-receiver-requires c =
+    let within = found_within c.deref.result.now c.to-to.result c.in-Some-position_of.k (sym c.in-Some-position_of.ensures) in
+    omega (arith, within, ap length c.deref.ensures.value, c.self.inside.places.ok.0)

@@ -3,10 +3,8 @@ use Rattle.std.specs.Prelude.{OnOk}
 use Rattle.xl_core.specs.declared.event.CoreEvent.TheVariants.{Relist, Submit}
 use Rattle.xl_sched.specs.declared.event.What.{What}
 use Rattle.xl_world.specs.declared.outcome.Outcome.{Outcome}
-use Rattle.xl_core.specs.declared.deed.Deed.{Deed}
-use Rattle.xl_world.specs.declared.place.Fate.{Fate}
 use Rattle.xl_world.specs.declared.place.Fate.TheVariants.{Saved}
-use Rattle.xl_world.specs.Schedule.{ask_steps, outcomes_at, steps_at, told_in}
+use Rattle.xl_world.specs.Schedule.{outcomes_at, steps_at, told_in}
 use Rattle.xl_world.specs.World.{World, run}
 use Rattle.xl_world.proofs.Acting.{asked_ran, asked_steps, fair_ran}
 use Rattle.xl_world.proofs.network.Network.happen.Goals as goal
@@ -54,27 +52,3 @@ returns-in-List-clause-world c =
     subst (λ (v : World). OnOk c.act-in-List.result (c.act-in-List.new.self ≡ v))
     (fair_ran w c.in-List.node (Relist c.args.at c.in-List.list) Saved (λ n. refl) ∙ ap (λ (happening : What). run w (steps_at w c.args.at happening)) (sym c.in-List.is))
     c.act-in-List.ensures.world
-
--- and with what is asked, and fails
-pub act-in-Fail-requires-clause-may : goal.act-in-Fail-requires-clause-may
-act-in-Fail-requires-clause-may c = c.asked_by-node-in-Fail.ensures.may c.asked_by-node-in-Fail.result.0
-
-pub returns-in-Fail-clause-world : goal.returns-in-Fail-clause-world
-returns-in-Fail-clause-world c =
-    let w : World = c.args.self.now in
-    let i = c.asked_by-node-in-Fail.result.0 in
-    let d : Deed = c.asked_by-node-in-Fail.result.1 in
-    subst (λ (v : World). OnOk c.act-in-Fail.result (c.act-in-Fail.new.self ≡ v))
-    (asked_ran w c.args.at c.in-Fail.ask i d c.failing.result c.asked_by-node-in-Fail.ensures.node c.asked_by-node-in-Fail.ensures.deed
-    ∙ (ap (λ (f : Fate). run w (ask_steps w c.args.at c.in-Fail.ask f)) c.failing.ensures ∙ ap (λ (happening : What). run w (steps_at w c.args.at happening)) (sym c.in-Fail.is)))
-    c.act-in-Fail.ensures.world
-
-pub returns-in-Fail-clause-told : goal.returns-in-Fail-clause-told
-returns-in-Fail-clause-told c =
-    let w : World = c.args.self.now in
-    let i = c.asked_by-node-in-Fail.result.0 in
-    let d : Deed = c.asked_by-node-in-Fail.result.1 in
-    subst (λ (os : List Outcome). OnOk c.act-in-Fail.result (c.act-in-Fail.new.told.items ≡ c.args.told.now.items ++ os))
-    (ap (told_in w) (asked_steps w c.args.at c.in-Fail.ask i d c.failing.result c.asked_by-node-in-Fail.ensures.node c.asked_by-node-in-Fail.ensures.deed)
-    ∙ (ap (λ (f : Fate). told_in w (ask_steps w c.args.at c.in-Fail.ask f)) c.failing.ensures ∙ ap (outcomes_at w c.args.at) (sym c.in-Fail.is)))
-    c.act-in-Fail.ensures.told

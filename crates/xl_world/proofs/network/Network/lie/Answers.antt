@@ -1,4 +1,4 @@
-use Rattle.std.proofs.Common.{◌≡◌, ◌++◌, ◌∙◌, ℕ, List, [], Option, Some, None, ap, append-nil, set, subst, sym, take, true}
+use Rattle.std.proofs.Common.{rules, ◌≡◌, ◌++◌, ◌∙◌, ℕ, List, None, ap, append-nil, set, subst, sym, take, true}
 use Rattle.std.specs.Prelude.{◌==◌, OnOk, position}
 use Rattle.xl_lists.specs.Lists.{is_on}
 use Rattle.xl_tags.specs.Rings.{schedule_ring}
@@ -13,12 +13,12 @@ use Rattle.xl_world.specs.Emptying.{event_steps}
 use Rattle.xl_world.specs.Disk.{answer_of}
 use Rattle.xl_world.specs.Schedule.{hand_steps, lied_body, lied_bytes, told_in}
 use Rattle.xl_world.specs.Seen.{with_forged}
-use Rattle.xl_world.specs.World.{World, place_at, run}
+use Rattle.xl_world.specs.World.{World, run}
 use Rattle.xl_world.specs.Worlds.{network_seen}
-use Rattle.xl_world.proofs.Acted.{IsActed, IsFound, found_in, absent, absent_ran, absent_told, acted_ran, acted_rest, acted_told, found_acted, found_place}
+use Rattle.xl_world.proofs.Acted.{IsActed, IsFound, found_in, absent, absent_stays, absent_told, acted_ran, acted_rest, acted_told, found_acted, found_place}
 use Rattle.xl_world.proofs.Acting.{fair_ran}
 use Rattle.xl_world.proofs.CoreSteps.{frame_plain}
-use Rattle.xl_world.proofs.Growing.{grows_from, grows_same}
+use Rattle.xl_world.proofs.Growing.{grows_from}
 use Rattle.xl_world.proofs.Liars.{lie_fair}
 use Rattle.xl_world.proofs.network.Network.lie.Goals as goal
 use Rattle.xl_world.proofs.network.Network.lie.Goals.{After-happens}
@@ -92,3 +92,19 @@ pub returns-clause-grows : goal.returns-clause-grows
 returns-clause-grows c =
     let d = (goal.at.returns-clause-grows c).After-happens in
     grows_from c.args.self.now (network_seen c.self.inside) c.settle.new.self (after d) c.self.view_is c.settle.ensures.grows
+
+-- nobody has its receiver's number
+pub returns-in_default-clause-world : goal.returns-in_default-clause-world
+returns-in_default-clause-world c =
+    let w : World = c.args.self.now in
+    let none : position (λ p. p.core.node.me == c.args.to) c.deref-2.result.now ≡ None = search rules in
+    absent_stays w c.args.to (Frame c.args.at (lied_bytes c.args.from c.args.to c.args.lie.now)) Saved (absent w (network_seen c.self.inside) c.args.to c.deref-2.result.now c.self.view_is none c.deref-2.ensures.value)
+
+pub returns-in_default-clause-told : goal.returns-in_default-clause-told
+returns-in_default-clause-told c =
+    let w : World = c.args.self.now in
+    let told : List Outcome = c.args.told.now.items in
+    let none : position (λ p. p.core.node.me == c.args.to) c.deref-2.result.now ≡ None = search rules in
+    sym (append-nil told)
+    ∙ ap (λ (os : List Outcome). told ++ os)
+    (sym (absent_told w c.args.to (Frame c.args.at (lied_bytes c.args.from c.args.to c.args.lie.now)) Saved (absent w (network_seen c.self.inside) c.args.to c.deref-2.result.now c.self.view_is none c.deref-2.ensures.value)))

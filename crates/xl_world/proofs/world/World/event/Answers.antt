@@ -17,5 +17,5 @@ pub returns-in-Ok-clause-told : goal.returns-in-Ok-clause-told
 returns-in-Ok-clause-told c =
     c.from_vec.ensures
     ∙ (c.in-Ok.ensures.told
-    ∙ (ap (λ (os : List Outcome). os ++ outcomes_at c.self.inside.network c.args.event.now.at c.args.event.now.what) c.new-told.ensures.items
+    ∙ (ap (λ (os : List Outcome). os ++ outcomes_at c.self.inside.network c.args.event.now.at c.args.event.now.what) c.nothing_told-told.ensures
     ∙ ap (λ (w : World). outcomes_at w c.args.event.now.at c.args.event.now.what) (kept_same c.self.inside.spent c.self.inside.network c.args.self.now c.self.view_is c.self.invariant c.if-self.false)))
