@@ -10,7 +10,7 @@ use Rattle.xl_world.specs.declared.place.Place.{Place}
 use Rattle.xl_world.specs.Emptying.{event_steps}
 use Rattle.xl_world.specs.Schedule.{told_in}
 use Rattle.xl_world.specs.Rested.{IsAtRest, IsRested}
-use Rattle.xl_world.specs.Seen.{Answers, AnswersAt, IsAnswer, MayDo, acted_at, deed_event, noted, outcomes_told, place_after, with_forged, with_places}
+use Rattle.xl_world.specs.Seen.{Answers, AnswersAt, IsAnswer, MayDo, acted_at, noted, outcomes_told, place_after, with_forged, with_places}
 use Rattle.xl_world.specs.World.{World, place_at, reply_at, run, sent_in}
 use Rattle.xl_world.proofs.Acting.{acted_rests, noted_ran}
 use Rattle.xl_world.proofs.Emptying.{emptied_acts, event_ran}
@@ -44,14 +44,14 @@ pub record IsActed (w : World) (i : ℕ) (e : CoreEvent) (fate : Fate) (after : 
   pub places : after ≡ acted_at i e fate w.places
   pub answer : AnswersAt i e fate w.places (Some a)
 
-pub found_acted : (w u : World) (i k : ℕ) (p : Place) (d : Deed) (fate : Fate) (q : Place) (a : NodeAnswer) → IsFound w u i k p → q ≡ place_after p (deed_event p.core.node.me d) fate →
-    IsAnswer p (deed_event p.core.node.me d) fate a → IsActed w i (deed_event i d) fate (set u.places k q) a
-found_acted w u i k p d fate q a found is is_answer =
-    let e : CoreEvent = deed_event i d in
+pub found_acted : (w u : World) (i k : ℕ) (p : Place) (event : ℕ → CoreEvent) (fate : Fate) (q : Place) (a : NodeAnswer) → IsFound w u i k p → q ≡ place_after p (event p.core.node.me) fate →
+    IsAnswer p (event p.core.node.me) fate a → IsActed w i (event i) fate (set u.places k q) a
+found_acted w u i k p event fate q a found is is_answer =
+    let e : CoreEvent = event i in
     let its : p.core.node.me ≡ i = found_number w u i k p found in
     let same : u.places ≡ w.places = ap (λ (v : World). v.places) found.same in
-    let after : q ≡ place_after (get_or u.places k p) e fate = is ∙ (ap (λ (m : ℕ). place_after p (deed_event m d) fate) its ∙ ap (λ (x : Place). place_after x e fate) found.there) in
-    let its_answer : IsAnswer p e fate a = subst (λ (m : ℕ). IsAnswer p (deed_event m d) fate a) its is_answer in
+    let after : q ≡ place_after (get_or u.places k p) e fate = is ∙ (ap (λ (m : ℕ). place_after p (event m) fate) its ∙ ap (λ (x : Place). place_after x e fate) found.there) in
+    let its_answer : IsAnswer p e fate a = subst (λ (m : ℕ). IsAnswer p (event m) fate a) its is_answer in
     record {
       places = acted_there u.places i k e fate p q found.first after ∙ ap (acted_at i e fate) same;
       answer = subst (λ (ps : List Place). AnswersAt i e fate ps (Some a)) same (answered_there u.places i k e fate p a found.first (subst (λ (x : Place). IsAnswer x e fate a) found.there its_answer));

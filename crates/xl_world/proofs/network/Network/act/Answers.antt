@@ -24,7 +24,7 @@ found : (c : After-happens) → IsFound c.args.self.now (network_seen c.self.ins
 found c = found_in c.args.self.now (network_seen c.self.inside) c.args.i c.in-Some.k c.index_mut-place.result.now c.deref.result.now c.self.view_is c.in-Some.ensures c.deref.ensures.value c.index_mut-place.ensures.value
 
 acted : (c : After-happens) → IsActed c.args.self.now c.args.i (event c) c.args.fate (after c) c.happens.new.answer
-acted c = found_acted c.args.self.now (network_seen c.self.inside) c.args.i c.in-Some.k c.index_mut-place.result.now c.args.deed.now c.args.fate c.happens.new.self c.happens.new.answer (found c) c.happens.ensures.place c.happens.ensures.answer
+acted c = found_acted c.args.self.now (network_seen c.self.inside) c.args.i c.in-Some.k c.index_mut-place.result.now (λ m. deed_event m c.args.deed.now) c.args.fate c.happens.new.self c.happens.new.answer (found c) c.happens.ensures.place c.happens.ensures.answer
 
 pub happens-requires-clause-rested : goal.happens-requires-clause-rested
 happens-requires-clause-rested c =

@@ -32,7 +32,7 @@ found : (c : After-happens) → IsFound c.args.self.now (network_seen c.self.ins
 found c = found_in c.args.self.now (network_seen c.self.inside) c.asked_by-node.result.0 c.in-Some.k c.index_mut-place.result.now c.deref.result.now c.self.view_is c.in-Some.ensures c.deref.ensures.value c.index_mut-place.ensures.value
 
 acted : (c : After-happens) → IsActed c.args.self.now (number c) (event c) Unwritten (after c) c.happens.new.answer
-acted c = found_acted c.args.self.now (network_seen c.self.inside) (number c) c.in-Some.k c.index_mut-place.result.now c.asked_by-node.result.1 Unwritten c.happens.new.self c.happens.new.answer (found c) c.happens.ensures.place c.happens.ensures.answer
+acted c = found_acted c.args.self.now (network_seen c.self.inside) (number c) c.in-Some.k c.index_mut-place.result.now (λ m. deed_event m c.asked_by-node.result.1) Unwritten c.happens.new.self c.happens.new.answer (found c) c.happens.ensures.place c.happens.ensures.answer
 
 -- its disk before it
 held : (c : After-happens) → Some c.index_mut-place.result.now.disk ≡ disk_in (number c) c.args.self.now.places

@@ -2,7 +2,6 @@ use Rattle.std.proofs.Common.{rules, ◌≡◌, ◌++◌, ◌∙◌, ℕ, List, 
 use Rattle.std.specs.Prelude.{◌==◌, OnOk, position, slice_get}
 use Rattle.xl_core.specs.declared.event.CoreEvent.{CoreEvent}
 use Rattle.xl_core.specs.declared.event.CoreEvent.TheVariants.{Frame}
-use Rattle.xl_core.specs.declared.deed.Deed.TheVariants.{Sealed}
 use Rattle.xl_world.specs.declared.outcome.Outcome.{Outcome}
 use Rattle.xl_world.specs.declared.place.Fate.TheVariants.{Saved}
 use Rattle.xl_world.specs.declared.place.Place.{Place}
@@ -49,7 +48,7 @@ found : (c : After-happens) → IsFound c.args.self.now (network_seen c.self.ins
 found c = found_in c.args.self.now (network_seen c.self.inside) c.to-to.result c.in-Some-position_of.k c.index_mut-receiver.result.now c.deref.result.now c.self.view_is c.in-Some-position_of.ensures c.deref.ensures.value c.index_mut-receiver.ensures.value
 
 acted : (c : After-happens) → IsActed c.args.self.now c.to-to.result (event c) Saved (after c) c.happens.new.answer
-acted c = found_acted c.args.self.now (network_seen c.self.inside) c.to-to.result c.in-Some-position_of.k c.index_mut-receiver.result.now (Sealed c.args.at (record { now = kept c })) Saved c.happens.new.self c.happens.new.answer (found c) c.happens.ensures.place c.happens.ensures.answer
+acted c = found_acted c.args.self.now (network_seen c.self.inside) c.to-to.result c.in-Some-position_of.k c.index_mut-receiver.result.now (λ m. Frame c.args.at (bytes_as_sealed (schedule_ring m) (kept c))) Saved c.happens.new.self c.happens.new.answer (found c) c.happens.ensures.place c.happens.ensures.answer
 
 pub happens-requires-clause-rested : goal.happens-requires-clause-rested
 happens-requires-clause-rested c =
