@@ -10,16 +10,16 @@ use Rattle.xl_queues.proofs.Accounting.{push_accounts, pop_accounts}
 use Rattle.xl_wire.specs.declared.validation.Validation.{Validation}
 use Rattle.xl_core.proofs.Timing.{timing_by, submit_either, relist_either}
 use Rattle.xl_core.specs.declared.event.CoreEvent.{CoreEvent}
-use Rattle.xl_core.specs.declared.event.CoreEvent.TheVariants.{Issue, Frame, Timer, Submit, Greet, Drain, Reports, Stop, Stopped, Relist}
 use Rattle.xl_core.specs.declared.refusal.Refusal.TheVariants.{NotAfter}
 use Rattle.xl_core.specs.declared.report.Report.{Report}
-use Rattle.xl_core.specs.Answers.{handed_in}
+use Rattle.xl_core.specs.Answers.{Answer, handed_in}
 use Rattle.xl_core.specs.Core.{Core, core_happens, with_queues}
 use Rattle.xl_core.specs.CoreLives.{CoreHappening, core_after, arisen_over, handed_over, ReportsAreHandedOut, NoneIsLost}
 use Rattle.xl_core.specs.Node as nodes
 use Rattle.xl_core.specs.Node.{Node, Event, Reply, Save, happens, timer_reply, issued_unless_off, refusing, at_moment, own_validation, opened}
 use Rattle.xl_core.specs.Issuing.Save.{Kept, Failed}
 use Rattle.xl_core.specs.Queues.{with_report, without}
+use Rattle.xl_core.proofs.Beside.{node_or_other}
 use Rattle.xl_core.proofs.Stopping.{heard_keeps}
 
 -- AN EVENT AT THE NODE
@@ -71,18 +71,17 @@ goes (suc n) (r ∷ rs) lost =
 node_accounts : (core : Core) (reply : Reply) → handed_in reply.answer ≡ [] → Accounts core.untaken (with_report core.untaken reply.report) (option_to_list reply.report) (handed_in reply.answer)
 node_accounts core reply none = subst (λ xs. Accounts core.untaken (with_report core.untaken reply.report) (option_to_list reply.report) xs) (sym none) (comes core.untaken reply.report)
 
+-- what leaves the reports as they were
+other_accounts : (q q' : Backlog Report) (a : Answer) → q' ≡ q → handed_in a ≡ [] → Accounts q q' [] (handed_in a)
+other_accounts q q' a same none = subst (λ x. Accounts q x [] (handed_in a)) (sym same) (subst (λ xs. Accounts q q [] xs) (sym none) (stays_accounted q))
+
 pub step_accounts : (core : Core) (e : CoreEvent) (save : Save) → let reply = core_happens core e save in
     Accounts core.untaken reply.core.untaken (option_to_list reply.report) (handed_in reply.answer)
-step_accounts core (Issue now seq id full) save = node_accounts core (happens core.node (nodes.Issue now seq id full) save) (happens_hands core.node (nodes.Issue now seq id full) save)
-step_accounts core (Frame now bytes) save = node_accounts core (happens core.node (nodes.Frame now bytes) save) (happens_hands core.node (nodes.Frame now bytes) save)
-step_accounts core (Timer now) save = node_accounts core (happens core.node (nodes.Timer now) save) (happens_hands core.node (nodes.Timer now) save)
-step_accounts core (Submit now tx) save = node_accounts core (happens core.node (nodes.Submit now tx) save) (happens_hands core.node (nodes.Submit now tx) save)
-step_accounts core (Greet member) save = stays_accounted core.untaken
-step_accounts core (Drain member room) save = stays_accounted core.untaken
-step_accounts core (Reports room) save = goes room core.untaken.items core.untaken.lost
-step_accounts core Stop save = stays_accounted core.untaken
-step_accounts core Stopped save = stays_accounted core.untaken
-step_accounts core (Relist now list) save = node_accounts core (happens core.node (nodes.Relist now list) save) (happens_hands core.node (nodes.Relist now list) save)
+step_accounts core e save =
+    node_or_other (λ r. Accounts core.untaken r.core.untaken (option_to_list r.report) (handed_in r.answer)) core e save
+    (λ n _. node_accounts core (happens core.node n save) (happens_hands core.node n save))
+    (λ after a _ untaken none. other_accounts core.untaken after.untaken a untaken none)
+    (λ room. goes room core.untaken.items core.untaken.lost)
 
 -- A LIFE
 
@@ -127,27 +126,23 @@ node_whole core reply before out none few was =
     subst (λ xs. IsWhole (before ++ option_to_list reply.report) (out ++ xs) (with_report core.untaken reply.report)) (sym none)
     (comes_whole before out core.untaken reply.report (omega (arith, few, length-append out (handed_in reply.answer), ap length none)) was)
 
+other_whole : (before out : List Report) (q q' : Backlog Report) (a : Answer) → q' ≡ q → handed_in a ≡ [] → IsWhole before out q → IsWhole (before ++ []) (out ++ handed_in a) q'
+other_whole before out q q' a same none was =
+    subst (λ x. IsWhole (before ++ []) (out ++ handed_in a) x) (sym same) (subst (λ xs. IsWhole (before ++ []) (out ++ xs) q) (sym none) (stays_whole before out q was))
+
 step_whole : (core : Core) (e : CoreEvent) (save : Save) (before out : List Report) → let reply = core_happens core e save in
     length (before ++ option_to_list reply.report) ≤ length (out ++ handed_in reply.answer) + 1024 →
     IsWhole before out core.untaken → IsWhole (before ++ option_to_list reply.report) (out ++ handed_in reply.answer) reply.core.untaken
-step_whole core (Issue now seq id full) save before out few was =
-    node_whole core (happens core.node (nodes.Issue now seq id full) save) before out (happens_hands core.node (nodes.Issue now seq id full) save) few was
-step_whole core (Frame now bytes) save before out few was =
-    node_whole core (happens core.node (nodes.Frame now bytes) save) before out (happens_hands core.node (nodes.Frame now bytes) save) few was
-step_whole core (Timer now) save before out few was =
-    node_whole core (happens core.node (nodes.Timer now) save) before out (happens_hands core.node (nodes.Timer now) save) few was
-step_whole core (Submit now tx) save before out few was =
-    node_whole core (happens core.node (nodes.Submit now tx) save) before out (happens_hands core.node (nodes.Submit now tx) save) few was
-step_whole core (Greet member) save before out few was = stays_whole before out core.untaken was
-step_whole core (Drain member room) save before out few was = stays_whole before out core.untaken was
-step_whole core (Reports room) save before out few was = record {
-  all = append-nil before ∙ was.all ∙ ap (λ xs. out ++ xs) (sym (take-append-drop room core.untaken.items)) ∙ sym (append_assoc out (take room core.untaken.items) (drop room core.untaken.items));
-  none = was.none;
-}
-step_whole core Stop save before out few was = stays_whole before out core.untaken was
-step_whole core Stopped save before out few was = stays_whole before out core.untaken was
-step_whole core (Relist now list) save before out few was =
-    node_whole core (happens core.node (nodes.Relist now list) save) before out (happens_hands core.node (nodes.Relist now list) save) few was
+step_whole core e save before out =
+    node_or_other
+    (λ r. length (before ++ option_to_list r.report) ≤ length (out ++ handed_in r.answer) + 1024 → IsWhole before out core.untaken →
+    IsWhole (before ++ option_to_list r.report) (out ++ handed_in r.answer) r.core.untaken) core e save
+    (λ n _ few was. node_whole core (happens core.node n save) before out (happens_hands core.node n save) few was)
+    (λ after a _ untaken none few was. other_whole before out core.untaken after.untaken a untaken none was)
+    (λ room few was. record {
+      all = append-nil before ∙ was.all ∙ ap (λ xs. out ++ xs) (sym (take-append-drop room core.untaken.items)) ∙ sym (append_assoc out (take room core.untaken.items) (drop room core.untaken.items));
+      none = was.none;
+    })
 
 -- never more than 1,024 wait, of those that came before too
 abbrev NeverMoreAfter : List Report → List Report → Core → List CoreHappening → Type 0

@@ -1,6 +1,7 @@
 -- What the code does is what the definitions say.
-use Rattle.std.proofs.Common.{◌≡◌, ℕ, ◌*◌, ◌<◌, true, false, List, length, refl, arith, ap, sym, ◌∙◌, Option, Some, None, subst, Result, Ok, Err}
+use Rattle.std.proofs.Common.{◌≡◌, ℕ, ◌*◌, ◌<◌, Bool, true, false, List, length, refl, arith, ap, sym, ◌∙◌, Option, Some, None, subst, Result, Ok, Err}
 use Rattle.std.specs.Prelude.{IsSome, is_some, map, filter_map, option_map}
+use Rattle.xl_base.specs.declared.ids.LedgerId.{LedgerId}
 use Rattle.xl_lists.specs.Lists.{IsValid, is_on}
 use Rattle.xl_wire.specs.declared.validation.Validation.{Validation}
 use Rattle.xl_validations.specs.declared.row.Row.{Row}
@@ -14,12 +15,12 @@ use Rattle.xl_core.specs.declared.refusal.Refusal.{Refusal}
 use Rattle.xl_core.specs.Answers.{Took, Done}
 use Rattle.xl_core.specs.declared.taken.Taken.TheVariants.{Validation as TakenValidation}
 use Rattle.xl_core.specs.Node.{Node, Reply, speech_reply, taken_reply, reply_unless, reporting, with_taken, take, arisen, arisen_in, arises_in, refusal_at, second_of}
-use Rattle.xl_core.specs.Node.{report_if}
+use Rattle.xl_core.specs.Node.{own_issued_reply, report_if, told_by, with_own}
 use Rattle.xl_core.specs.declared.hearing.Speech.TheVariants as speech
 use Rattle.xl_core.specs.Refusals.{refusal_from}
 use Rattle.xl_core.specs.Rest.{IsAtRest, NothingArises}
 use Rattle.xl_core.specs.declared.taken.Heard.{Heard}
-use Rattle.xl_core.specs.Replies.{hear_reply}
+use Rattle.xl_core.specs.Replies.{hear_reply, issue_reply}
 use Rattle.xl_core.proofs.Members.{row_if_on, members_stay, nobody_changes, refused_stays, taken_changes}
 use Rattle.xl_core.proofs.Arising.{arisen_by, rest_reported, nothing_arisen}
 
@@ -102,3 +103,32 @@ own_taken n from v r m rest is =
 pub own_not_listed : (n : Node) (now : ℕ) (v : Validation) → IsAtRest n → is_on n.list.members n.me ≡ false →
     (n ≡ (reporting (with_taken n now n.me v) Done (Some v)).node) × (None ≡ arisen (with_taken n now n.me v))
 own_not_listed n now v rest off = stays n (at_member n.me (take now v) n.rows) (Some v) rest (nobody_changes n.me (take now v) n.rows (has_none n n.me rest off))
+
+-- WHAT IS ISSUED
+
+-- the validation that is issued, and the report that it gives, if the own row takes it
+pub own_reply : (n m : Node) (v : Validation) (heard : Result Heard Refusal) (report : Option Report) → IsAtRest n → hear_reply heard m ≡ speech_reply n n.me (speech.Validation v) → report ≡ (hear_reply heard m).report →
+    issue_reply (Ok (record { validation = v; report = report })) m ≡ reporting (with_own n v) Done (Some v)
+own_reply n m v heard report rest is told =
+    let own = own_taken n n.me v heard m rest is in
+    ap (λ (x : Node). issue_reply (Ok (record { validation = v; report = report })) x) own.0
+    ∙ ap (λ (r : Option Report). issue_reply (Ok (record { validation = v; report = r })) (reporting (with_own n v) Done (Some v)).node) (told ∙ own.1)
+
+-- or if the node has none
+pub own_reply_off : (n : Node) (v : Validation) → IsAtRest n → is_on n.list.members n.me ≡ false → issue_reply (Ok (record { validation = v; report = None })) n ≡ reporting (with_own n v) Done (Some v)
+own_reply_off n v rest off =
+    let own = own_not_listed n (second_of n) v rest off in
+    ap (λ (x : Node). issue_reply (Ok (record { validation = v; report = None })) x) own.0
+    ∙ ap (λ (r : Option Report). issue_reply (Ok (record { validation = v; report = r })) (reporting (with_own n v) Done (Some v)).node) own.1
+
+-- the validation as the code has it
+pub own_issued : (n m : Node) (seq : ℕ) (id : LedgerId) (full : Bool) (signed : ℕ) (validated : Option LedgerId) → n ≡ m → signed ≡ second_of n → validated ≡ told_by m →
+    let v : Validation = record { id = id; seq = seq; signed = signed; full = full; validated = validated } in
+    reporting (with_own (record n { kept = seq }) v) Done (Some v) ≡ own_issued_reply m seq id full
+own_issued n m seq id full signed validated same at told =
+    let issued = λ (s : ℕ) (o : Option LedgerId). let v : Validation = record { id = id; seq = seq; signed = s; full = full; validated = o } in let r : Reply = reporting (with_own (record n { kept = seq }) v) Done (Some v) in r in
+    ap (λ (s : ℕ). issued s validated) at
+    ∙ (ap (issued (second_of n)) (told ∙ ap told_by (sym same)) ∙ ap (λ (x : Node). own_issued_reply x seq id full) same)
+
+pub saved_rest : (n : Node) (seq : ℕ) → IsAtRest n → IsAtRest (record n { kept = seq })
+saved_rest n seq rest = record { valid = rest.valid; members = rest.members; reported = rest.reported }

@@ -3,6 +3,7 @@ use Rattle.std.proofs.Common.{◌≡◌, ℕ, Bool, List, refl, ap, sym, ◌∙�
 use Rattle.xl_base.specs.Faults.{Rose}
 use Rattle.xl_io.specs.Keepers.{Held}
 use Rattle.xl_core.specs.declared.core_answer.CoreAnswer.{CoreAnswer}
+use Rattle.xl_core.specs.declared.deed.Deed.{Deed}
 use Rattle.xl_core.specs.declared.event.CoreEvent.{CoreEvent}
 use Rattle.xl_core.specs.declared.refusal.Refusal.{Refusal}
 use Rattle.xl_core.specs.declared.refusal.Refusal.TheVariants as why
@@ -10,8 +11,8 @@ use Rattle.xl_core.specs.declared.timer_answer.TimerAnswer.{TimerAnswer}
 use Rattle.xl_core.specs.declared.timer_answer.TimerAnswer.TheVariants as timer_answer
 use Rattle.xl_core.specs.declared.timer_answer.Issued.TheVariants as issued
 use Rattle.xl_core.specs.Answers.{Answer}
-use Rattle.xl_core.specs.Core.{Core, core_happens, core_asks}
-use Rattle.xl_core.specs.Deeds.{CountsFailure, Happens, HappensUnsaved, answer_of, save_told}
+use Rattle.xl_core.specs.Core.{Core, CoreReply, core_happens, core_asks}
+use Rattle.xl_core.specs.Deeds.{CountsFailure, Happens, answer_of, event_for, save_told}
 use Rattle.xl_core.specs.Keeping.{CountsFault, IsAsked}
 use Rattle.xl_core.specs.Node.{Save, is_kept}
 use Rattle.xl_core.specs.Issuing.Save.{Kept, Failed}
@@ -19,6 +20,7 @@ use Rattle.xl_core.specs.Replies.{Answers, done_answer, save_in, save_of}
 use Rattle.xl_core.specs.Stops.{IsCovered, StaysCovered}
 use Rattle.xl_core.specs.TimerParts.{CountsBeatFault, save_at}
 use Rattle.xl_core.proofs.Concluding.{unasked}
+use Rattle.xl_core.proofs.Unasked.{unasked_alike}
 
 -- THE SAVE
 
@@ -74,10 +76,18 @@ module _ {K : Type 0} (held_by : K → Option Held) (saves_of : K → Option (Li
       }
 
   -- by a call that asks no save
-  pub unsaved : (before after : Core) (event : CoreEvent) (told : CoreAnswer) (keeper : K) → HappensUnsaved before event after told → Happens held_by saves_of faults_of gives before event after told keeper keeper
-  unsaved before after event told keeper done = record {
-    step = done.step;
-    asks = subst (λ (o : Option ℕ). IsAsked held_by saves_of faults_of gives o (is_kept (save_told (answer_of told))) keeper keeper) (sym done.asks) (unasked held_by saves_of faults_of gives (is_kept (save_told (answer_of told))) keeper);
-    fault = subst (λ (o : Option ℕ). CountsFailure o (save_told (answer_of told)) (faults_of keeper) (faults_of keeper)) (sym done.asks) tt;
-    stop = stays_alike (held_by keeper) before after done.stop;
-  }
+  pub by_unasked : (before after : Core) (event : CoreEvent) (told : CoreAnswer) (keeper : K) (a : Answer) → core_asks before event ≡ None → answer_of told ≡ a → Answers (core_happens before event Kept) after a →
+      ((held : Held) → IsCovered held before → IsCovered held after) → Happens held_by saves_of faults_of gives before event after told keeper keeper
+  by_unasked before after event told keeper a none is step stays =
+      let save : Save = save_told (answer_of told) in
+      let alike : Answers (core_happens before event Kept) after (answer_of told) = subst (λ (x : Answer). Answers (core_happens before event Kept) after x) (sym is) step in record {
+        step = subst (λ (r : CoreReply). Answers r after (answer_of told)) (unasked_alike before event Kept save none) alike;
+        asks = subst (λ (o : Option ℕ). IsAsked held_by saves_of faults_of gives o (is_kept save) keeper keeper) (sym none) (unasked held_by saves_of faults_of gives (is_kept save) keeper);
+        fault = subst (λ (o : Option ℕ). CountsFailure o save (faults_of keeper) (faults_of keeper)) (sym none) tt;
+        stop = stays_alike (held_by keeper) before after stays;
+      }
+
+  -- of a deed, which is this one
+  pub of_deed : (before after : Core) (d is_d : Deed) (told : CoreAnswer) (old new : K) → d ≡ is_d → Happens held_by saves_of faults_of gives before (event_for before is_d) after told old new →
+      Happens held_by saves_of faults_of gives before (event_for before d) after told old new
+  of_deed before after d is_d told old new is done = subst (λ (x : Deed). Happens held_by saves_of faults_of gives before (event_for before x) after told old new) (sym is) done

@@ -52,6 +52,12 @@ same_second now n time before after ready time_is before_is after_is same =
     ∙ ap (λ (rs : List Row). let m : Node = record n { time = max n.time now; rows = rs } in m)
     (sym (ap (λ (s : ℕ). map (row_at s) n.rows) still ∙ none_expire (n.time / 1000) n.rows ready.current))
 
+-- so at its own time a node is as it is
+pub at_its_time : (n m : Node) → n ≡ m → IsReady n → at_moment n.time m ≡ m
+at_its_time n m is ready =
+    let same : n.time ≡ max n.time n.time = omega arith in
+    subst (λ (x : Node). at_moment n.time x ≡ x) is (sym (same_second n.time n n.time (n.time / 1000) (n.time / 1000) ready same refl refl refl))
+
 -- the time as the code has it, within a second
 pub ready_within : (now : ℕ) (n : Node) (time : ℕ) → now ≤ greatest_millis → time ≡ max n.time now → time / 1000 ≡ n.time / 1000 → IsReady n → IsReady (record n { time = time })
 ready_within now n time le time_is same ready = record {

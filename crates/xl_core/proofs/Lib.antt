@@ -28,3 +28,4 @@ pub mod Accounted
 pub mod Marking
 pub mod Doing
 pub mod Unasked
+pub mod Beside

@@ -6,7 +6,7 @@ use Rattle.std.specs.Option.{is_none}
 use Rattle.std.specs.List.Sorted.{IsStrictlyIncreasing}
 use Rattle.std.proofs.lemmas.Option.{none-some, same_Some}
 use Rattle.std.proofs.lemmas.Bool.{and_parts, and_from, or_cases, or_left, or_right, cases_Bool, cond_both, eqb-true, eq-eqb, ltb-true, lt-ltb, leb-true, false_from_ne_true}
-use Rattle.std.proofs.lemmas.List.Elements.{All-head, All-tail, All-cons, All-nil, All-map, All-weaker}
+use Rattle.std.proofs.lemmas.List.Elements.{All-cons, All-nil, All-map, All-weaker}
 use Rattle.xl_base.specs.Ids.{same_id}
 use Rattle.xl_base.specs.declared.ids.LedgerId.{LedgerId}
 use Rattle.xl_lists.specs.Lists.{TrustedList, IsValid}
@@ -26,7 +26,7 @@ use Rattle.xl_core.specs.declared.refusal.Refusal.TheVariants.{NotAfter}
 use Rattle.xl_core.specs.declared.report.Report.{Report}
 use Rattle.xl_core.specs.declared.taken.Taken.TheVariants.{Validation as TakenValidation}
 use Rattle.xl_core.specs.Lasts.{is_last, is_news, later, none_reported}
-use Rattle.xl_core.specs.Lives.{Happening, IsFit, is_relist, sets_list, node_after, reports_in, last_of, set_then, set_after, IsNew, ReportsArise, ReportsRise}
+use Rattle.xl_core.specs.Lives.{Happening, IsFit, SetNoList, sets_list, node_after, reports_in, last_of, set_then, set_after, IsNew, ReportsArise, ReportsRise}
 use Rattle.xl_core.specs.Node.{Node, Event, Issue, Frame, Timer, Submit, Relist, Quiet, Reply, Save, issued_unless_off, opened, happens, issued_reply, issuing_reply, replying, reply_unless, timer_reply, timer_outcome, validates, validating_built, with_tx, with_list, with_saved, refusing, reporting, with_taken, arises, arisen, report_of, taken_reply, bytes_reply, at_moment, second_of, own_validation, key_refusal}
 use Rattle.xl_core.specs.Issuing.Save.{Kept, Failed}
 use Rattle.xl_core.specs.Rest.{IsAtRest}
@@ -232,14 +232,7 @@ rising_cons y xs rising above zero within = above 0 0 (omega (arith, within))
 rising_cons y xs rising above (suc k) within =
     subst (λ (j : ℕ). get_or xs k 0 < get_or (y ∷ xs) j 0) {x = suc (k + 1)} {y = suc k + 1} (omega arith) (rising k (omega (arith, within)))
 
-sets_none : (n : Node) (e : Event) → is_relist e ≡ false → sets_list n e ≡ false
-sets_none n (Issue now seq id full) e = refl
-sets_none n (Frame now bytes) e = refl
-sets_none n (Timer now) e = refl
-sets_none n (Submit now tx) e = refl
-sets_none n (Relist now list) e = let never : true ≡ false = e in absurd cc
-
--- what is reported after a report, while no list is handed in, is above it
+-- what is reported after a report, while no list is set, is above it
 pub record Rises (last : LastReport) (reports : List Report) : Type 0 where
   pub rising : IsStrictlyIncreasing (map (λ r. r.seq) reports)
   pub above : (l : Report) → last ≡ record { report = Some l; relisted = false } → All (λ r. l.seq < r.seq) reports
@@ -263,16 +256,15 @@ above_both l last after (Some r) more same news rises is =
     let low : l.seq < r.seq = first_above l r (ap (λ x. is_news x r.seq r.id) (sym is) ∙ news) in
     All-cons (λ q. l.seq < q.seq) r more low (All-weaker (λ q. r.seq < q.seq) (λ q. l.seq < q.seq) (λ q h. omega (arith, low, h)) more (rises.above r same))
 
-rises_in : (n : Node) (life : List Happening) → All (λ h. is_relist h.event ≡ false) life → Rises n.last (reports_in n life)
+rises_in : (n : Node) (life : List Happening) → SetNoList n life → Rises n.last (reports_in n life)
 rises_in n [] none = record { rising = λ k within. absurd (omega (arith, within)); above = λ l _. All-nil (λ r. l.seq < r.seq) }
 rises_in n (h ∷ hs) none =
     let reply : Reply = happens n h.event h.save in
-    let unset : sets_list n h.event ≡ false = sets_none n h.event (All-head (λ x. is_relist x.event ≡ false) h hs none) in
-    let is : Reports n.last false reply = subst (λ b. Reports n.last b reply) unset (happens_reports n h.event h.save) in
+    let is : Reports n.last false reply = subst (λ b. Reports n.last b reply) none.0 (happens_reports n h.event h.save) in
     let bar : barred n.last false ≡ n.last = sym (unbarred n.last) in
     let after : reply.node.last ≡ later n.last reply.report = is.last_is ∙ ap (λ l. later l reply.report) bar in
     let news : IfSome reply.report (λ r. is_news n.last r.seq r.id ≡ true) = subst (λ l. IfSome reply.report (λ r. is_news l r.seq r.id ≡ true)) bar is.news in
-    let rest : Rises reply.node.last (reports_in reply.node hs) = rises_in reply.node hs (All-tail (λ x. is_relist x.event ≡ false) h hs none) in
+    let rest : Rises reply.node.last (reports_in reply.node hs) = rises_in reply.node hs none.1 in
     record {
       rising = comes_first n.last reply.node.last reply.report (reports_in reply.node hs) after rest;
       above = λ l same. above_both l n.last reply.node.last reply.report (reports_in reply.node hs) after news rest same;

@@ -12,7 +12,7 @@ use Rattle.xl_core.specs.Answers.{Done}
 use Rattle.xl_core.specs.Node.{Node, Reply, Save, TimerOutcome, asks_for, asks_of, at_moment, timer_reply, built_reply, issued_unless_off, issuing_reply, own_validation, refusing, replying, starting, timer_outcome, unless_failed, validates, validating_built}
 use Rattle.xl_core.specs.Timer.TimerOutcome.{Quiet, Ending}
 use Rattle.xl_core.specs.declared.event.CoreEvent.{CoreEvent}
-use Rattle.xl_core.specs.declared.event.CoreEvent.TheVariants.{Issue, Frame, Timer, Submit, Greet, Drain, Reports, Stop, Stopped, Relist}
+use Rattle.xl_core.specs.declared.event.CoreEvent.TheVariants.{Issue, Timer}
 
 never_some : (s : ℕ) → (let o : Option ℕ = Some s in o) ≡ None → ⊥
 never_some s e = cc
@@ -45,12 +45,5 @@ completed_unasked (Ending n said h place moved_on) s t asks =
 -- an event that asks no save does the same however one were answered: so a cut may try it under a disk that fails
 pub unasked_alike : (core : Core) (e : CoreEvent) (s t : Save) → core_asks core e ≡ None → core_happens core e s ≡ core_happens core e t
 unasked_alike core (Issue now seq id full) s t asks = ap (stepped core) (issuing_unasked (at_moment now core.node) seq id full s t asks)
-unasked_alike core (Frame now bytes) s t asks = refl
 unasked_alike core (Timer now) s t asks = ap (stepped core) (completed_unasked (timer_outcome (at_moment now core.node)) s t asks)
-unasked_alike core (Submit now tx) s t asks = refl
-unasked_alike core (Greet member) s t asks = refl
-unasked_alike core (Drain member room) s t asks = refl
-unasked_alike core (Reports room) s t asks = refl
-unasked_alike core Stop s t asks = refl
-unasked_alike core Stopped s t asks = refl
-unasked_alike core (Relist now list) s t asks = refl
+unasked_alike core other s t asks = refl

@@ -15,7 +15,7 @@ use Rattle.xl_core.specs.Answers.{Answer, Done, Gave, Handed, Told}
 use Rattle.xl_core.specs.Greetings.{none_greeted, greeting_of, greeting_at, with_greeting, greeting_frames, further_at}
 use Rattle.xl_core.specs.Items.{frames_for}
 use Rattle.xl_core.specs.Node as nodes
-use Rattle.xl_core.specs.Node.{Node, Reply, Save, happens, asks}
+use Rattle.xl_core.specs.Node.{Node, Event, Reply, Save, happens, asks}
 use Rattle.xl_core.specs.Queues.{none_waiting, with_items, waiting_at, at_number, after_taking, fitting, that_fit, frames_in, with_report, without}
 
 pub record Core : Type 0 where
@@ -44,6 +44,15 @@ pub record CoreReply : Type 0 where
   pub answer : Answer
   pub issued : Option Validation
   pub report : Option Report
+
+-- the event of its node that an event of a core is, if it is one
+abbrev pub node_event : CoreEvent → Option Event
+node_event (Issue now seq id full) = Some (nodes.Issue now seq id full)
+node_event (Frame now bytes) = Some (nodes.Frame now bytes)
+node_event (Timer now) = Some (nodes.Timer now)
+node_event (Submit now tx) = Some (nodes.Submit now tx)
+node_event (Relist now list) = Some (nodes.Relist now list)
+node_event other = None
 
 -- what came of it at the node: its items wait for every number, and what it reports to be taken
 abbrev pub stepped : Core → Reply → CoreReply

@@ -19,7 +19,7 @@ use Rattle.xl_core.specs.Keeping.{IsAsked}
 use Rattle.xl_core.specs.Node.{Save, is_kept}
 use Rattle.xl_core.specs.Issuing.Save.{Kept, Failed}
 use Rattle.xl_core.specs.Replies.{Answers, save_of}
-use Rattle.xl_core.specs.Stops.{IsCovered, StaysCovered}
+use Rattle.xl_core.specs.Stops.{StaysCovered}
 use Rattle.xl_core.specs.TimerParts.{save_at}
 
 -- the event that it is for a core with these keys
@@ -81,9 +81,3 @@ pub record Happens {K : Type 0} (held_by : K → Option Held) (saves_of : K → 
       (core_asks before event) (is_kept (save_told (answer_of told))) old new
   pub fault : CountsFailure (core_asks before event) (save_told (answer_of told)) (faults_of old) (faults_of new)
   pub stop : StaysCovered (held_by old) (held_by new) before after
-
--- so of an event that asks no save, whatever the keeper
-pub record HappensUnsaved (before : Core) (event : CoreEvent) (after : Core) (told : CoreAnswer) : Type 0 where
-  pub step : Answers (core_happens before event (save_told (answer_of told))) after (answer_of told)
-  pub asks : core_asks before event ≡ None
-  pub stop : (held : Held) → IsCovered held before → IsCovered held after

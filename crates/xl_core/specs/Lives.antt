@@ -24,11 +24,6 @@ IsFitEvent other = Unit {0}
 abbrev pub IsFit : Happening → Type 0
 IsFit h = IsFitEvent h.event
 
--- whether a list is handed in
-abbrev pub is_relist : Event → Bool
-is_relist (Relist now list) = true
-is_relist other = false
-
 -- whether an event sets the list
 abbrev pub sets_list : Node → Event → Bool
 sets_list n (Relist now list) = is_none (key_refusal n list)
@@ -38,6 +33,11 @@ sets_list n other = false
 abbrev pub node_after : Node → List Happening → Node
 node_after n [] = n
 node_after n (h ∷ hs) = node_after (happens n h.event h.save).node hs
+
+-- no list is set in them: one that is refused changes nothing
+abbrev pub SetNoList : Node → List Happening → Type 0
+SetNoList n [] = Unit {0}
+SetNoList n (h ∷ hs) = (sets_list n h.event ≡ false) × SetNoList (happens n h.event h.save).node hs
 
 -- what it reported in them
 abbrev pub reports_in : Node → List Happening → List Report
@@ -86,5 +86,6 @@ ReportsArise =
 abbrev pub ReportsRise : Type 0
 ReportsRise =
     (settings : Settings) (now kept : ℕ) (life : List Happening) (first : Happening) (more : List Happening) →
-    All (λ h. is_relist h.event ≡ false) more →
-    IsStrictlyIncreasing (map (λ r. r.seq) (reports_in (node_after (opened settings now kept) life) (first ∷ more)))
+    let n = node_after (opened settings now kept) life in
+    SetNoList (happens n first.event first.save).node more →
+    IsStrictlyIncreasing (map (λ r. r.seq) (reports_in n (first ∷ more)))

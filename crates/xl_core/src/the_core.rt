@@ -1,33 +1,28 @@
-ghost use Rattle.std.specs.Prelude.{◌≡◌, ◌↔◌, ◌<◌, ◌≤◌, [], ℕ, IfOk, IsSome, IsTrue, OnOk, OnErr, Some, Err, length, option_map, None};
+ghost use Rattle.std.specs.Prelude.{◌≡◌, ◌↔◌, ◌<◌, ◌≤◌, ℕ, IfOk, IsSome, OnOk, OnErr, Some, Err, None};
 ghost use Rattle.std.specs.Result.{result_err};
 ghost use Rattle.xl_base.specs.Moments.{greatest_millis};
-ghost use Rattle.xl_validations.specs.Rows.{current_of, heard_of, is_full_of};
-ghost use Rattle.xl_validations.specs.Votes.{votes_of};
 ghost use Rattle.xl_ledger.specs.Limits.{greatest_limit, least_limit};
 ghost use Rattle.xl_io.specs.Keepers.{Held};
 ghost use Rattle.xl_tags.specs.Rings.{key_of};
-ghost use Rattle.xl_core.specs.Answers.{Done, Gave, Told};
+ghost use Rattle.xl_core.specs.Answers.{Done, Told};
 ghost use Rattle.xl_core.specs.Building.{said_items};
-ghost use Rattle.xl_core.specs.Core.{all_frames, answering, is_idle, with_queues, core_happens, core_asks, Marks};
-ghost use Rattle.xl_core.specs.Items.{lost_for};
+ghost use Rattle.xl_core.specs.Core.{with_queues, core_happens, core_asks};
 ghost use Rattle.xl_core.specs.Marks.{StayMarks};
-ghost use Rattle.xl_core.specs.Queues.{with_items, frames_in};
-ghost use Rattle.xl_core.specs.declared.event.CoreEvent.TheVariants.{Issue, Frame, Timer, Submit, Greet, Drain, Stop, Stopped, Relist};
+ghost use Rattle.xl_core.specs.Queues.{with_items};
+ghost use Rattle.xl_core.specs.declared.event.CoreEvent.TheVariants.{Issue, Frame, Timer, Submit, Greet, Stop, Stopped, Relist};
 ghost use Rattle.xl_core.specs.Stops.{HoldsAtLeast, IsCovered, StaysCovered};
 ghost use Rattle.xl_core.specs.Keeping.{AsksSave, CountsFault, Holds, IsAsked, Saves};
-ghost use Rattle.xl_core.specs.Replies.{Answers, Drains, DrainsBlank, HandsOut, Issues, core_for, taken_answer, done_answer, was_kept};
+ghost use Rattle.xl_core.specs.Replies.{Answers, Issues, taken_answer, done_answer, was_kept};
 ghost use Rattle.xl_core.specs.Rest.{IsKeyed};
 ghost use Rattle.xl_core.specs.Hearing.{Carries, bytes_as_sealed, bytes_with, speech_of};
-ghost use Rattle.xl_core.specs.Node.{opened, settings_of, at_moment, asks_for, frame_refusal, key_refusal, speech_refusal, tx_refusal, preferred, IsOff};
+ghost use Rattle.xl_core.specs.Node.{opened, settings_of, at_moment, asks_for, frame_refusal, key_refusal, speech_refusal, tx_refusal, IsOff};
 ghost use Rattle.xl_core.specs.TimerParts.{Beaten, Concludes, CountsBeatFault, IsBuilt, asks_in, beat_was_kept};
 ghost use Rattle.xl_core.specs.Issuing.Save.{Kept};
-ghost use Rattle.xl_wire.specs.Lengths.{longest_frame};
 ghost use Rattle.xl_wire.specs.declared.body.Body.{Body};
 ghost use Rattle.xl_wire.specs.Raws.{RawFrame};
 ghost use Rattle.xl_core.specs.declared.refusal.Refusal.TheVariants.{NotAfter, IssuingOff};
 
 use crate::hearing::Tags;
-use crate::sending::TagPlace;
 use crate::taken::UNHEARD;
 use crate::timer_answer::full_or_partial;
 use crate::timer_part::{Built, NOT_BEATEN, TimerPart};
@@ -36,24 +31,26 @@ use std::alloc::Global;
 use std::marker::Model;
 use xl_base::{LedgerId, MOST_MEMBERS, Millis, NodeNo, OutOfMemory, Seq, TxId};
 use xl_io::Keeper;
-use xl_ledger::{Branch, Registry};
+use xl_ledger::Branch;
 use xl_lists::List;
 use xl_queues::{Broadcast, Queue};
 use xl_rounds::Said;
 
 mod door;
+mod draining;
 mod greeting;
 mod marks;
 mod outgoing;
+mod readers;
 mod untaken;
 
 pub use greeting::Greeting;
-use greeting::{Greetings, greet, hand_chain, is_greeted};
-use marks::{is_idle, is_marked, noted, push};
+use greeting::{Greetings, greet};
+use marks::{noted, push};
 pub use outgoing::OUTGOING;
-use outgoing::{Waiting, drain, lost_for};
+use outgoing::Waiting;
 pub use untaken::UNTAKEN;
-use untaken::{push_report, take_reports};
+use untaken::push_report;
 
 /// A node with its queues, over whichever branch of votes: what it issues waits for each peer until it is drained, and
 /// what it reports until it is taken. A peer is a number that the node has a key for. No call after `open` and `reopen`
@@ -355,91 +352,6 @@ impl<B: Branch + Drop> Core<B> {
         self.marks = noted(self.marks, member, false);
     }
 
-    /// Writes frames for a peer into the room, as many as fit: first of the headers with which it is greeted, then of
-    /// what waits for it, the oldest first. What was written is taken out. Answers how many bytes were written; the
-    /// rest of the room is as it was. A frame is sealed here and nowhere else.
-    pub fn drain(&mut self, member: NodeNo, room: &mut [u8]) -> usize
-        requires peer { IsSome (key_of self.old.node.keys member) }
-        requires room { longest_frame ≤ length room.old }
-        ensures step { Drains self.old member self.new result room.old room.new }
-        // It answers 0 exactly if nothing is left but items that are passed over.
-        ensures nothing { (result ≡ 0) ↔ (frames_in (all_frames self.old member) ≡ []) }
-        ensures stop { (held : Held) → IsCovered held self.old → IsCovered held self.new }
-    {
-        self.write(member, TagPlace::Sealed, room)
-    }
-
-    /// Writes frames as `drain` does, except that it seals none: the last 32 bytes of each, where its tag goes, are zero.
-    /// `frame_as_sealed` hears such a frame as the sealed one.
-    pub fn drain_blank(&mut self, member: NodeNo, room: &mut [u8]) -> usize
-        requires peer { IsSome (key_of self.old.node.keys member) }
-        requires room { longest_frame ≤ length room.old }
-        ensures step { DrainsBlank self.old member self.new result room.old room.new }
-        // It answers 0 exactly if nothing is left but items that are passed over.
-        ensures nothing { (result ≡ 0) ↔ (frames_in (all_frames self.old member) ≡ []) }
-        ensures stop { (held : Held) → IsCovered held self.old → IsCovered held self.new }
-    {
-        self.write(member, TagPlace::Blank, room)
-    }
-
-    /// Writes frames for a peer into the room, with their tags or without.
-    fn write(&mut self, member: NodeNo, tags: TagPlace, room: &mut [u8]) -> usize
-        requires peer { IsSome (key_of self.old.node.keys member) }
-        ensures step { Drains (core_for tags self.old) member (core_for tags self.new) result room.old room.new }
-        ensures node { self.new.node ≡ self.old.node }
-    {
-        let at = hand_chain(&mut self.greetings, &self.node, member, tags, room);
-        if !is_greeted(&self.greetings, &self.node, member) {
-            return at;
-        }
-        let count = drain(&mut self.waiting, &self.node, member, tags, &mut room[at..]);
-        let idle = is_idle(&self.greetings, &self.waiting, member);
-        self.marks = noted(self.marks, member, idle);
-        at + count
-    }
-
-    /// For whom something is left, as bits: the one at place n - 1, from the lowest on, is that of the member of number
-    /// n. A drain for a member whose bit is clear gives nothing, and changes nothing.
-    pub fn waiting(&self) -> u64
-        ensures { Marks result self.now }
-    {
-        self.marks
-    }
-
-    /// Whether a member wasn't greeted since the core opened, and nothing waits for it: a drain for it gives nothing
-    /// then, and changes nothing.
-    pub fn is_idle(&self, member: NodeNo) -> bool
-        ensures value { result ≡ is_idle self.now member }
-        ensures idle { IsTrue result → (room : ℕ)
-            → core_happens self.now (Drain member room) Kept ≡ answering self.now (Gave member []) }
-    {
-        !is_marked(self.marks, member)
-    }
-
-    /// How many items for a member were lost, since its queue was full or they were passed over: none for one that is
-    /// no peer.
-    pub fn lost(&self, member: NodeNo) -> u64
-        ensures { result ≡ lost_for self.now.node self.now.waiting member }
-    {
-        lost_for(&self.waiting, &self.node, member)
-    }
-
-    /// Takes out the oldest reports that no one has taken, as many as the room holds, and answers how many. The rest of
-    /// the room is as it was.
-    pub fn reports(&mut self, room: &mut [Report]) -> usize
-        ensures step { HandsOut self.old self.new result room.old room.new }
-        ensures stop { (held : Held) → IsCovered held self.old → IsCovered held self.new }
-    {
-        take_reports(&mut self.untaken, room)
-    }
-
-    /// How many reports were dropped, since too many waited to be taken.
-    pub fn lost_reports(&self) -> u64
-        ensures { result ≡ self.now.untaken.lost }
-    {
-        self.untaken.lost()
-    }
-
     /// Notes that the node is to stop: whoever runs it asks `stopped`.
     pub fn stop(&mut self)
         ensures step { Answers (core_happens self.old Stop Kept) self.new Done }
@@ -453,56 +365,5 @@ impl<B: Branch + Drop> Core<B> {
         ensures step { Answers (core_happens self.now Stopped Kept) self.now (Told result) }
     {
         self.stopped
-    }
-
-    /// The ledger that the members' votes prefer, or None exactly if there is no vote.
-    pub fn preferred(&self) -> Option<Report>
-        ensures value { result ≡ preferred self.now.node }
-        ensures none { (result ≡ None) ↔ (votes_of self.now.node.ledgers.headers self.now.node.rows ≡ []) }
-    {
-        self.node.preferred()
-    }
-
-    /// The ledgers that the node knows.
-    pub fn registry(&self) -> &Registry
-        ensures { result.now ≡ self.now.node.ledgers }
-    {
-        self.node.registry()
-    }
-
-    /// The list in force.
-    pub fn list(&self) -> &List
-        ensures { result.now ≡ self.now.node.list }
-    {
-        self.node.list()
-    }
-
-    /// Whether a member's row holds a current full validation of this sequence and id.
-    pub fn holds(&self, member: NodeNo, seq: Seq, id: &LedgerId) -> bool
-        ensures { result ≡ is_full_of seq id.now (current_of self.now.node.rows member) }
-    {
-        self.node.holds(member, seq, id)
-    }
-
-    /// The ledger that a member last reported, as its current validation tells. None exactly if it has no row, or
-    /// its row has no current validation, or that doesn't tell.
-    pub fn heard(&self, member: NodeNo) -> Option<LedgerId>
-        ensures { result ≡ heard_of self.now.node.rows member }
-    {
-        self.node.heard(member)
-    }
-
-    /// The last sequence that was saved.
-    pub fn kept(&self) -> Seq
-        ensures { result ≡ self.now.node.kept }
-    {
-        self.node.kept()
-    }
-
-    /// The node.
-    pub fn node(&self) -> &Node<B>
-        ensures value { result.now ≡ self.now.node }
-    {
-        &self.node
     }
 }

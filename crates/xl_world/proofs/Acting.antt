@@ -37,9 +37,9 @@ use Rattle.xl_world.specs.Emptying.{event_steps}
 use Rattle.xl_world.specs.Forgeries.{forges, was_sent}
 use Rattle.xl_world.specs.Disk.{answer_of}
 use Rattle.xl_world.specs.Rested.{IsAtRest, IsRested}
-use Rattle.xl_world.specs.Schedule.{delivery, event_asked}
+use Rattle.xl_world.specs.Schedule.{ask_steps, delivery, event_asked, node_asked}
 use Rattle.xl_world.specs.Seen.{Answers, AnswersAt, acted_at, deed_event, forged_at, given_at, list_noted, noted, place_after, place_drained, put_acted, put_drained, report_noted, with_forged, with_places}
-use Rattle.xl_world.specs.World.{World, is_forged, disk_after, place_at, put, reply_at, reported_by, run, said_by, sent_in, set_by}
+use Rattle.xl_world.specs.World.{Step, World, is_forged, disk_after, place_at, put, reply_at, reported_by, run, said_by, sent_in, set_by}
 use Rattle.xl_world.proofs.CoreSteps.{frame_plain, issue_plain}
 use Rattle.xl_world.proofs.Emptying.{emptied_acts, emptied_node, emptied_then, event_ran, given_then}
 use Rattle.xl_world.proofs.Keeping.{core_keeps}
@@ -167,3 +167,12 @@ sent_ran w at f k found = fair_ran w f.to (Frame at f.bytes) Saved (λ n. sent_f
 pub asked_fair : (at : ℕ) (asked : Ask) (w : World) (n : Node) → is_forged w n (event_asked at asked) ≡ false
 asked_fair at (ask.Issue node seq id full) w n = refl
 asked_fair at (ask.Timer node) w n = refl
+
+-- so what is asked of a node is the steps of the event that it is
+pub asked_steps : (w : World) (at : ℕ) (a : Ask) (i : ℕ) (d : Deed) (fate : Fate) → i ≡ node_asked a → ((j : ℕ) → deed_event j d ≡ event_asked at a) → event_steps w i (deed_event i d) fate ≡ ask_steps w at a fate
+asked_steps w at a i d fate its is = ap (λ (e : CoreEvent). event_steps w i e fate) (is i) ∙ ap (λ (j : ℕ). event_steps w j (event_asked at a) fate) its
+
+pub asked_ran : (w : World) (at : ℕ) (a : Ask) (i : ℕ) (d : Deed) (fate : Fate) → i ≡ node_asked a → ((j : ℕ) → deed_event j d ≡ event_asked at a) →
+    with_forged w.forged (run w (event_steps w i (deed_event i d) fate)) ≡ run w (ask_steps w at a fate)
+asked_ran w at a i d fate its is =
+    ap (λ (steps : List Step). with_forged w.forged (run w steps)) (asked_steps w at a i d fate its is) ∙ fair_ran w (node_asked a) (event_asked at a) fate (asked_fair at a w)

@@ -291,16 +291,8 @@ drain_says P core member room save says =
 
 -- P holds of what is heard
 abbrev pub CoreHeard : (SaidLedger → Type 0) → Node → CoreEvent → Type 0
-CoreHeard P n (Issue now seq id full) = Unit {0}
 CoreHeard P n (Frame now bytes) = HeardSays P n (nodes.Frame now bytes)
-CoreHeard P n (Timer now) = Unit {0}
-CoreHeard P n (Submit now tx) = Unit {0}
-CoreHeard P n (Greet member) = Unit {0}
-CoreHeard P n (Drain member room) = Unit {0}
-CoreHeard P n (Reports room) = Unit {0}
-CoreHeard P n Stop = Unit {0}
-CoreHeard P n Stopped = Unit {0}
-CoreHeard P n (Relist now list) = Unit {0}
+CoreHeard P n other = Unit {0}
 
 -- what holds of what stands at the core, of what came and of what is issued holds of what stands there then, and of what is given
 pub core_says : (P : SaidLedger → Type 0) (core : Core) (e : CoreEvent) (save : Save) → CoreSays P core → CoreHeard P core.node e → IfSome (core_happens core e save).issued (λ v. P (said_by core.node.me v)) →

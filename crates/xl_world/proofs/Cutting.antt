@@ -7,7 +7,7 @@ use Rattle.xl_core.specs.Node as nodes
 use Rattle.xl_core.specs.Node.{Node, Event, Reply, Save, happens, opened, settings_of}
 use Rattle.xl_core.specs.Issuing.Save.{Kept as AnsweredOk}
 use Rattle.xl_core.specs.declared.event.CoreEvent.{CoreEvent}
-use Rattle.xl_core.specs.declared.event.CoreEvent.TheVariants.{Issue, Frame, Timer, Submit, Greet, Drain, Reports, Stop, Stopped, Relist}
+use Rattle.xl_core.specs.declared.event.CoreEvent.TheVariants.{Issue, Timer}
 use Rattle.xl_core.specs.declared.settings.Settings.{Settings}
 use Rattle.xl_sched.specs.declared.event.Ask.{Ask}
 use Rattle.xl_sched.specs.declared.event.Ask.TheVariants as ask
@@ -48,14 +48,7 @@ settings_stay core (Issue now seq id full) save s asks =
     let e : Event = nodes.Issue now seq id full in by_node core.node (happens core.node e save) (asking_keeps core.node e save s asks)
 settings_stay core (Timer now) save s asks =
     let e : Event = nodes.Timer now in by_node core.node (happens core.node e save) (asking_keeps core.node e save s asks)
-settings_stay core (Frame now bytes) save s asks = cc
-settings_stay core (Submit now tx) save s asks = cc
-settings_stay core (Greet member) save s asks = cc
-settings_stay core (Drain member room) save s asks = cc
-settings_stay core (Reports room) save s asks = cc
-settings_stay core Stop save s asks = cc
-settings_stay core Stopped save s asks = cc
-settings_stay core (Relist now list) save s asks = cc
+settings_stay core other save s asks = cc
 
 -- so a node that is opened again is as it would have been before what was tried
 pub acted_again : (ps : List Place) (i at : ℕ) (e : CoreEvent) (fate : Fate) (k : Disk) (p : Place) (s : ℕ) → place_at i ps ≡ Some p → core_asks p.core e ≡ Some s →

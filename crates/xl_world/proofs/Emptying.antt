@@ -10,7 +10,7 @@ use Rattle.xl_core.specs.Core.{Core, CoreReply, core_happens}
 use Rattle.xl_core.specs.Node.{Node}
 use Rattle.xl_core.specs.Issuing.Save.{Kept as AnsweredOk}
 use Rattle.xl_core.specs.declared.event.CoreEvent.{CoreEvent}
-use Rattle.xl_core.specs.declared.event.CoreEvent.TheVariants.{Issue, Frame, Timer, Submit, Greet, Drain, Reports, Stop, Stopped, Relist}
+use Rattle.xl_core.specs.declared.event.CoreEvent.TheVariants.{Drain, Reports}
 use Rattle.xl_wire.specs.Lengths.{longest_frame}
 use Rattle.xl_world.specs.declared.place.Fate.{Fate}
 use Rattle.xl_world.specs.declared.place.Fate.TheVariants.{Saved}
@@ -28,16 +28,8 @@ use Rattle.xl_world.proofs.Settling.{at_its_number}
 -- DRAINS
 
 abbrev pub IsDrain : CoreEvent → Type 0
-IsDrain (Issue now seq id full) = ⊥
-IsDrain (Frame now bytes) = ⊥
-IsDrain (Timer now) = ⊥
-IsDrain (Submit now tx) = ⊥
-IsDrain (Greet member) = ⊥
 IsDrain (Drain member room) = Unit {0}
-IsDrain (Reports room) = ⊥
-IsDrain Stop = ⊥
-IsDrain Stopped = ⊥
-IsDrain (Relist now list) = ⊥
+IsDrain other = ⊥
 
 abbrev pub AreDrains : List CoreEvent → Type 0
 AreDrains [] = Unit {0}
@@ -45,16 +37,8 @@ AreDrains (e ∷ es) = IsDrain e × AreDrains es
 
 -- what holds of each drain
 pub drain_by : (P : CoreEvent → Type 0) → ((m room : ℕ) → P (Drain m room)) → (e : CoreEvent) → IsDrain e → P e
-drain_by P each (Issue now seq id full) is = absurd is
-drain_by P each (Frame now bytes) is = absurd is
-drain_by P each (Timer now) is = absurd is
-drain_by P each (Submit now tx) is = absurd is
-drain_by P each (Greet member) is = absurd is
 drain_by P each (Drain member room) is = each member room
-drain_by P each (Reports room) is = absurd is
-drain_by P each Stop is = absurd is
-drain_by P each Stopped is = absurd is
-drain_by P each (Relist now list) is = absurd is
+drain_by P each other is = absurd is
 
 pub drains_are : (core : Core) (m more : ℕ) → AreDrains (drains core m more)
 drains_are core m zero = (tt, tt)

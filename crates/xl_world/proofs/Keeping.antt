@@ -1,5 +1,5 @@
 -- What a node keeps over its events.
-use Rattle.std.proofs.Common.{◌≡◌, ℕ, Bool, List, [], refl, ◌∙◌, Option, Some, None}
+use Rattle.std.proofs.Common.{◌≡◌, ℕ, Bool, List, [], refl, ap, ◌∙◌, Option, Some, None}
 use Rattle.std.specs.Prelude.{nat_lt}
 use Rattle.std.proofs.lemmas.Bool.{cond_both}
 use Rattle.xl_base.specs.declared.ids.LedgerId.{LedgerId}
@@ -10,7 +10,7 @@ use Rattle.xl_core.specs.Answers.{Done}
 use Rattle.xl_core.proofs.Timing.{timing_by, submit_either, relist_either}
 use Rattle.xl_core.specs.Core.{Core, core_happens}
 use Rattle.xl_core.specs.declared.event.CoreEvent.{CoreEvent}
-use Rattle.xl_core.specs.declared.event.CoreEvent.TheVariants as at_core
+use Rattle.xl_core.proofs.Beside.{node_or_beside}
 use Rattle.xl_core.specs.declared.refusal.Refusal.TheVariants.{NotAfter}
 use Rattle.xl_core.specs.declared.hearing.Speech.{Speech}
 use Rattle.xl_core.specs.declared.hearing.Speech.TheVariants as speech
@@ -71,19 +71,10 @@ happens_keeps n (Relist now list) save = relist_either (λ r. (r.node.me ≡ n.m
 pub asking_keeps : (n : Node) (e : Event) (save : Save) (s : ℕ) → asks n e ≡ Some s → KeepsList n (happens n e save)
 asking_keeps n (Issue now seq id full) save s asked = issuing_keeps (at_moment now n) seq id full save
 asking_keeps n (Timer now) save s asked = timer_keeps (at_moment now n) save
-asking_keeps n (Submit now tx) save s asked = cc
-asking_keeps n (Frame now bytes) save s asked = cc
-asking_keeps n (Relist now list) save s asked = cc
+asking_keeps n other save s asked = cc
 
 -- so do they at a core
 pub core_keeps : (core : Core) (e : CoreEvent) (save : Save) → let n = (core_happens core e save).core.node in (n.me ≡ core.node.me) × (n.keys ≡ core.node.keys)
-core_keeps core (at_core.Issue now seq id full) save = happens_keeps core.node (Issue now seq id full) save
-core_keeps core (at_core.Frame now bytes) save = happens_keeps core.node (Frame now bytes) save
-core_keeps core (at_core.Timer now) save = happens_keeps core.node (Timer now) save
-core_keeps core (at_core.Submit now tx) save = happens_keeps core.node (Submit now tx) save
-core_keeps core (at_core.Greet member) save = (refl, refl)
-core_keeps core (at_core.Drain member room) save = (refl, refl)
-core_keeps core (at_core.Reports room) save = (refl, refl)
-core_keeps core at_core.Stop save = (refl, refl)
-core_keeps core at_core.Stopped save = (refl, refl)
-core_keeps core (at_core.Relist now list) save = happens_keeps core.node (Relist now list) save
+core_keeps core e save =
+    node_or_beside (λ r. (r.core.node.me ≡ core.node.me) × (r.core.node.keys ≡ core.node.keys)) core e save (λ n _. happens_keeps core.node n save)
+    (λ after a same. (ap (λ (n : Node). n.me) same, ap (λ (n : Node). n.keys) same))

@@ -26,6 +26,7 @@ pub mod Putting
 pub mod Emptying
 pub mod Resting
 pub mod Acting
+pub mod Acted
 pub mod Telling
 pub mod Shortening
 pub mod Drains

@@ -17,7 +17,7 @@ use Rattle.xl_validations.specs.Rows.{is_full_of, count_full}
 use Rattle.xl_validations.specs.declared.row.Row.{Row}
 use Rattle.xl_tags.specs.Rings.{Ring}
 use Rattle.xl_core.specs.declared.event.CoreEvent.{CoreEvent}
-use Rattle.xl_core.specs.declared.event.CoreEvent.TheVariants.{Issue, Frame, Timer, Submit, Greet, Drain, Reports, Stop, Stopped, Relist}
+use Rattle.xl_core.specs.declared.event.CoreEvent.TheVariants.{Frame}
 use Rattle.xl_core.specs.declared.hearing.Speech.TheVariants as speech
 use Rattle.xl_core.specs.declared.hearing.Spoken.{Spoken}
 use Rattle.xl_core.specs.declared.refusal.Refusal.{Refusal}
@@ -26,11 +26,12 @@ use Rattle.xl_core.specs.Answers.{Answer, Refused, Took, Beats, Done, Gave, Hand
 use Rattle.xl_core.specs.Core.{Core, CoreReply, core_happens}
 use Rattle.xl_core.specs.CoreLives.{CoreHappening, given_over}
 use Rattle.xl_core.specs.Hearing.{spoken_in}
-use Rattle.xl_core.specs.Node as nodes
 use Rattle.xl_core.specs.Node.{Node, Save}
 use Rattle.xl_core.specs.Rest.{IsAtRest}
 use Rattle.xl_core.proofs.Heard.{heard_parts, not_itself}
 use Rattle.xl_core.proofs.Living.{happens_rest}
+use Rattle.xl_core.proofs.Beside.{node_or_beside}
+use Rattle.xl_core.specs.Lives.{IsFitEvent as IsFitForNode}
 use Rattle.xl_core.proofs.Opening.{opened_at_rest}
 use Rattle.xl_core.proofs.Reporting.{happens_reports}
 use Rattle.xl_world.specs.Lives.{Life, first_of, given_by, issued_over, issued_by, reported_over, reports_of, IsUnforged, AreUnforged, IsLife, AreLives, HeadlineOfLives}
@@ -98,16 +99,8 @@ OwnSays Q i x = x.member ≡ i → Q x
 
 -- a node hears nothing under its own number
 heard_others : (Q : SaidLedger → Type 0) (i : ℕ) (n : Node) (e : CoreEvent) → n.keys.me ≡ i → CoreHeard (OwnSays Q i) n e
-heard_others Q i n (Issue now seq id full) keys = tt
 heard_others Q i n (Frame now bytes) keys = λ from v is same. absurd (not_itself n.keys n.list.members bytes (record { from = from; what = speech.Validation v }) is (same ∙ sym keys))
-heard_others Q i n (Timer now) keys = tt
-heard_others Q i n (Submit now tx) keys = tt
-heard_others Q i n (Greet member) keys = tt
-heard_others Q i n (Drain member room) keys = tt
-heard_others Q i n (Reports room) keys = tt
-heard_others Q i n Stop keys = tt
-heard_others Q i n Stopped keys = tt
-heard_others Q i n (Relist now list) keys = tt
+heard_others Q i n other keys = tt
 
 -- what holds of all that a core issues holds of all that it gives under its number
 given_says : (Q : SaidLedger → Type 0) (i : ℕ) (core : Core) (hs : List CoreHappening) → core.node.keys.me ≡ i → CoreSays (OwnSays Q i) core → All Q (issued_over core hs) →
@@ -154,7 +147,6 @@ given_vouched liars lives are n bytes from v is honest given =
 
 -- what comes unforged is vouched for
 heard_vouched : (liars : List ℕ) (lives : ℕ → List Life) → AreLives liars lives → (core : Core) (e : CoreEvent) → IsUnforged liars lives core e → CoreHeard (IsVouched liars lives) core.node e
-heard_vouched liars lives are core (Issue now seq id full) fair = tt
 heard_vouched liars lives are core (Frame now bytes) fair = λ from v is.
     let either : IsTrue (is_on liars from) ⊎ Contains (given_by (lives from)) bytes =
     subst (λ (r : Result Spoken Refusal). IfOk r (λ said. IsTrue (is_on liars said.from) ⊎ Contains (given_by (lives said.from)) bytes)) is fair in
@@ -165,40 +157,17 @@ heard_vouched liars lives are core (Frame now bytes) fair = λ from v is.
         | inr given ↦ or_right _ _ (given_vouched liars lives are core.node bytes from v is honest given)
       ]
     ]
-heard_vouched liars lives are core (Timer now) fair = tt
-heard_vouched liars lives are core (Submit now tx) fair = tt
-heard_vouched liars lives are core (Greet member) fair = tt
-heard_vouched liars lives are core (Drain member room) fair = tt
-heard_vouched liars lives are core (Reports room) fair = tt
-heard_vouched liars lives are core Stop fair = tt
-heard_vouched liars lives are core Stopped fair = tt
-heard_vouched liars lives are core (Relist now list) fair = tt
+heard_vouched liars lives are core other fair = tt
 
 -- WHAT IS REPORTED
 
 pub core_rest : (core : Core) (e : CoreEvent) (save : Save) → IsFitEvent e → IsAtRest core.node → IsAtRest (core_happens core e save).core.node
-core_rest core (Issue now seq id full) save fit rest = happens_rest core.node (nodes.Issue now seq id full) save tt rest
-core_rest core (Frame now bytes) save fit rest = happens_rest core.node (nodes.Frame now bytes) save tt rest
-core_rest core (Timer now) save fit rest = happens_rest core.node (nodes.Timer now) save tt rest
-core_rest core (Submit now tx) save fit rest = happens_rest core.node (nodes.Submit now tx) save tt rest
-core_rest core (Greet member) save fit rest = rest
-core_rest core (Drain member room) save fit rest = rest
-core_rest core (Reports room) save fit rest = rest
-core_rest core Stop save fit rest = rest
-core_rest core Stopped save fit rest = rest
-core_rest core (Relist now list) save fit rest = happens_rest core.node (nodes.Relist now list) save fit rest
+core_rest core e save fit rest =
+    node_or_beside (λ r. IsAtRest r.core.node) core e save (λ n is. happens_rest core.node n save (subst (λ o. IfSome o IsFitForNode) is fit) rest) (λ after a same. subst IsAtRest (sym same) rest)
 
 pub core_quorum : (core : Core) (e : CoreEvent) (save : Save) → let r : CoreReply = core_happens core e save in IfSome r.report (λ q. r.core.node.list.quorum ≤ count_full q.seq q.id r.core.node.rows)
-core_quorum core (Issue now seq id full) save = (happens_reports core.node (nodes.Issue now seq id full) save).quorum
-core_quorum core (Frame now bytes) save = (happens_reports core.node (nodes.Frame now bytes) save).quorum
-core_quorum core (Timer now) save = (happens_reports core.node (nodes.Timer now) save).quorum
-core_quorum core (Submit now tx) save = (happens_reports core.node (nodes.Submit now tx) save).quorum
-core_quorum core (Greet member) save = tt
-core_quorum core (Drain member room) save = tt
-core_quorum core (Reports room) save = tt
-core_quorum core Stop save = tt
-core_quorum core Stopped save = tt
-core_quorum core (Relist now list) save = (happens_reports core.node (nodes.Relist now list) save).quorum
+core_quorum core e save =
+    node_or_beside (λ r. IfSome r.report (λ q. r.core.node.list.quorum ≤ count_full q.seq q.id r.core.node.rows)) core e save (λ n _. (happens_reports core.node n save).quorum) (λ after a same. tt)
 
 module _ (liars : List ℕ) (lives : ℕ → List Life) where
   -- a quorum of the report's list, on which each member stands once, is vouched for

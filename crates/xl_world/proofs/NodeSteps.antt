@@ -236,18 +236,12 @@ happens_steps p (Relist now list) fate fit well = from_moved now p _ _ (relistin
 
 -- P holds of what is heard
 abbrev pub HeardSays : (SaidLedger → Type 0) → Node → Event → Type 0
-HeardSays P n (Issue now seq id full) = Unit {0}
-HeardSays P n (Timer now) = Unit {0}
-HeardSays P n (Submit now tx) = Unit {0}
-HeardSays P n (Relist now list) = Unit {0}
 HeardSays P n (Frame now bytes) = (from : ℕ) (v : Validation) → spoken_in n.keys n.list.members bytes ≡ Ok (record { from = from; what = speech.Validation v }) → P (said_by from v)
+HeardSays P n other = Unit {0}
 
 pub heard_weaker : (P Q : SaidLedger → Type 0) → ((x : SaidLedger) → P x → Q x) → (n : Node) (e : Event) → HeardSays P n e → HeardSays Q n e
-heard_weaker P Q h n (Issue now seq id full) says = tt
-heard_weaker P Q h n (Timer now) says = tt
-heard_weaker P Q h n (Submit now tx) says = tt
-heard_weaker P Q h n (Relist now list) says = tt
 heard_weaker P Q h n (Frame now bytes) says = λ from v is. h (said_by from v) (says from v is)
+heard_weaker P Q h n other says = tt
 
 issue_says : (P : SaidLedger → Type 0) (n : Node) (v : Validation) (b : Bool) (off : Option ℕ) (save : Save) → NodeSays P n →
     IfSome (cond b (issued_unless_off n off save v) (refusing n (NotAfter n.kept))).issued (λ u. P (said_by n.me u)) →
@@ -347,9 +341,7 @@ asks_above n (Timer now) =
     (λ ledgers r said h place moved_on _.
     let b : Node = record m { ledgers = ledgers; round = r } in
     cond_both (validates b moved_on) (asks_for b h.seq) None (λ o. IfSome o (λ s. n.kept < s)) (λ _. asks_for_above b h.seq) (λ _. tt))
-asks_above n (Submit now tx) = tt
-asks_above n (Relist now list) = tt
-asks_above n (Frame now bytes) = tt
+asks_above n other = tt
 
 -- a node that is opened says and reports nothing
 abbrev pub quiet : Node → Reply

@@ -55,6 +55,10 @@ pub found_there : (xs : List Place) (i k : ℕ) (d : Place) → position (λ p. 
 found_there xs i k d found =
     let at = position-Some (λ p. p.core.node.me == i) xs k d found in there xs i k d at.0 at.1 (λ j h. at.2 j h)
 
+pub found_within : (xs : List Place) (i k : ℕ) → position (λ p. p.core.node.me == i) xs ≡ Some k → k < length xs
+found_within [] i k found = cc
+found_within (x ∷ xs) i k found = (position-Some (λ p. p.core.node.me == i) (x ∷ xs) k x found).0
+
 -- with another one put there
 pub put_found : (xs : List Place) (i k : ℕ) (d y : Place) → position (λ p. p.core.node.me == i) xs ≡ Some k → y.core.node.me ≡ (get_or xs k d).core.node.me → set xs k y ≡ put y xs
 put_found xs i k d y found same =

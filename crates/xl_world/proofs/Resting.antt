@@ -4,10 +4,10 @@ use Rattle.std.specs.Prelude.{◌==◌}
 use Rattle.std.proofs.lemmas.Bool.{cond_both}
 use Rattle.xl_queues.specs.Queues.{Backlog, with_item}
 use Rattle.xl_core.specs.Core.{Core, CoreReply, core_happens}
-use Rattle.xl_core.specs.Node.{Node, Save}
+use Rattle.xl_core.specs.Node.{Node, Save, happens}
+use Rattle.xl_core.proofs.Beside.{node_or_other}
 use Rattle.xl_core.specs.Queues.{with_report}
 use Rattle.xl_core.specs.declared.event.CoreEvent.{CoreEvent}
-use Rattle.xl_core.specs.declared.event.CoreEvent.TheVariants.{Issue, Frame, Timer, Submit, Greet, Drain, Reports, Stop, Stopped, Relist}
 use Rattle.xl_core.specs.declared.report.Report.{Report}
 use Rattle.xl_tags.specs.Rings.{schedule_ring}
 use Rattle.xl_world.specs.declared.place.Fate.{Fate}
@@ -35,16 +35,9 @@ dropped_twice (suc room) xs none = ap (λ (ys : List Report). drop 1 (drop (suc 
 
 -- after what happened none is, once the one that arose was handed out
 pub taken_after : (core : Core) (e : CoreEvent) (save : Save) → core.untaken.items ≡ [] → (handed_out (core_happens core e save).core).untaken.items ≡ []
-taken_after core (Issue now seq id full) save none = taken_then core.untaken (core_happens core (Issue now seq id full) save).report none
-taken_after core (Frame now bytes) save none = taken_then core.untaken (core_happens core (Frame now bytes) save).report none
-taken_after core (Timer now) save none = taken_then core.untaken (core_happens core (Timer now) save).report none
-taken_after core (Submit now tx) save none = taken_then core.untaken (core_happens core (Submit now tx) save).report none
-taken_after core (Greet member) save none = ap (drop 1) none
-taken_after core (Drain member room) save none = ap (drop 1) none
-taken_after core (Reports room) save none = dropped_twice room core.untaken.items none
-taken_after core Stop save none = ap (drop 1) none
-taken_after core Stopped save none = ap (drop 1) none
-taken_after core (Relist now list) save none = taken_then core.untaken (core_happens core (Relist now list) save).report none
+taken_after core e save none =
+    node_or_other (λ r. (handed_out r.core).untaken.items ≡ []) core e save (λ n _. taken_then core.untaken (happens core.node n save).report none)
+    (λ after a _ untaken _. ap (λ (q : Backlog Report). drop 1 q.items) untaken ∙ ap (drop 1) none) (λ room. dropped_twice room core.untaken.items none)
 
 pub rested_after : (core : Core) (e : CoreEvent) (save : Save) → IsRested core → IsRested (handed_out (core_happens core e save).core)
 rested_after core e save rested =

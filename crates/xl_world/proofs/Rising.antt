@@ -1,5 +1,5 @@
 -- What a node issues rises, over all its lives, whatever its saves are answered.
-use Rattle.std.proofs.Common.{◌≡◌, ℕ, ◌<◌, ◌≤◌, Bool, true, false, cond, List, [], ◌∷◌, ◌++◌, append_assoc, refl, arith, sym, ◌∙◌, subst, inl, inr, Some, None}
+use Rattle.std.proofs.Common.{◌≡◌, ℕ, ◌<◌, ◌≤◌, Bool, true, false, cond, List, [], ◌∷◌, ◌++◌, append_assoc, refl, arith, sym, ◌∙◌, subst, inl, inr, Some, None, ap}
 use Rattle.std.specs.Prelude.{◌==◌, ◌&&◌, IsTrue, IfSome, nat_lt, option_map, option_to_list}
 use Rattle.std.specs.declared.option.Option.{Option}
 use Rattle.std.proofs.lemmas.Bool.{and_parts, or_cases, eqb-true, ltb-true}
@@ -13,7 +13,7 @@ use Rattle.xl_ledger.specs.Headers.{header_id}
 use Rattle.xl_rounds.specs.Rounds.{is_proposing}
 use Rattle.xl_wire.specs.declared.validation.Validation.{Validation}
 use Rattle.xl_core.specs.declared.event.CoreEvent.{CoreEvent}
-use Rattle.xl_core.specs.declared.event.CoreEvent.TheVariants as at_core
+use Rattle.xl_core.proofs.Beside.{node_or_beside}
 use Rattle.xl_core.specs.declared.hearing.Speech.{Speech}
 use Rattle.xl_core.specs.declared.hearing.Speech.TheVariants as speech
 use Rattle.xl_core.specs.declared.refusal.Refusal.TheVariants.{NotAfter}
@@ -77,16 +77,9 @@ happens_keeps n (Relist now list) save =
 -- AT THE CORE
 
 core_keeps_on : (core : Core) (e : CoreEvent) (save : Save) → let r : CoreReply = core_happens core e save in Keeps core.node.kept r.issued r.core.node.kept
-core_keeps_on core (at_core.Issue now seq id full) save = happens_keeps core.node (Issue now seq id full) save
-core_keeps_on core (at_core.Frame now bytes) save = happens_keeps core.node (Frame now bytes) save
-core_keeps_on core (at_core.Timer now) save = happens_keeps core.node (Timer now) save
-core_keeps_on core (at_core.Submit now tx) save = happens_keeps core.node (Submit now tx) save
-core_keeps_on core (at_core.Greet member) save = record { above = tt; stays = omega arith }
-core_keeps_on core (at_core.Drain member room) save = record { above = tt; stays = omega arith }
-core_keeps_on core (at_core.Reports room) save = record { above = tt; stays = omega arith }
-core_keeps_on core at_core.Stop save = record { above = tt; stays = omega arith }
-core_keeps_on core at_core.Stopped save = record { above = tt; stays = omega arith }
-core_keeps_on core (at_core.Relist now list) save = happens_keeps core.node (Relist now list) save
+core_keeps_on core e save =
+    node_or_beside (λ r. Keeps core.node.kept r.issued r.core.node.kept) core e save (λ n _. happens_keeps core.node n save)
+    (λ after a same. record { above = tt; stays = omega (arith, ap (λ (n : Node). n.kept) same) })
 
 -- OVER LIVES
 

@@ -8,7 +8,7 @@ use Rattle.xl_base.specs.declared.ids.LedgerId.{LedgerId}
 use Rattle.xl_lists.specs.Agreement.{IsGenuine, IsBacked, Agree, has_said}
 use Rattle.xl_lists.proofs.Agreement.{law_of_agreement, vouches_still}
 use Rattle.xl_core.specs.declared.event.CoreEvent.{CoreEvent}
-use Rattle.xl_core.specs.declared.event.CoreEvent.TheVariants.{Issue, Frame, Timer, Submit, Greet, Drain, Reports, Stop, Stopped, Relist}
+use Rattle.xl_core.specs.declared.event.CoreEvent.TheVariants.{Issue, Frame, Timer}
 use Rattle.xl_core.specs.declared.hearing.Speech.TheVariants as speech
 use Rattle.xl_core.specs.Answers.{Done}
 use Rattle.xl_core.specs.Core.{Core, CoreReply, answering, core_asks}
@@ -36,29 +36,13 @@ use Rattle.xl_world.proofs.CoreSteps.{CoreHeard, core_steps, core_says, opened_c
 -- WHAT COMES UNFORGED
 
 heard_genuine : (w : World) (n : Node) → Stands w (IsGenuine w.liars w.said) → (e : CoreEvent) → is_forged w n e ≡ false → CoreHeard (IsGenuine w.liars w.said) n e
-heard_genuine w n stands (Issue now seq id full) fair = tt
 heard_genuine w n stands (Frame now bytes) fair = λ from v is.
     heard_unforged w n stands.sent bytes fair from v (heard_parts n.keys n.list.members bytes (record { from = from; what = speech.Validation v }) is)
-heard_genuine w n stands (Timer now) fair = tt
-heard_genuine w n stands (Submit now tx) fair = tt
-heard_genuine w n stands (Greet member) fair = tt
-heard_genuine w n stands (Drain member room) fair = tt
-heard_genuine w n stands (Reports room) fair = tt
-heard_genuine w n stands Stop fair = tt
-heard_genuine w n stands Stopped fair = tt
-heard_genuine w n stands (Relist now list) fair = tt
+heard_genuine w n stands other fair = tt
 
 pub heard_weaker : (P Q : SaidLedger → Type 0) → ((x : SaidLedger) → P x → Q x) → (n : Node) (e : CoreEvent) → CoreHeard P n e → CoreHeard Q n e
-heard_weaker P Q h n (Issue now seq id full) says = tt
 heard_weaker P Q h n (Frame now bytes) says = λ from v is. h (said_by from v) (says from v is)
-heard_weaker P Q h n (Timer now) says = tt
-heard_weaker P Q h n (Submit now tx) says = tt
-heard_weaker P Q h n (Greet member) says = tt
-heard_weaker P Q h n (Drain member room) says = tt
-heard_weaker P Q h n (Reports room) says = tt
-heard_weaker P Q h n Stop says = tt
-heard_weaker P Q h n Stopped says = tt
-heard_weaker P Q h n (Relist now list) says = tt
+heard_weaker P Q h n other says = tt
 
 -- THE STEPS
 
@@ -104,15 +88,8 @@ torn_sound w i now number sound p at (Some s) above =
 -- a save is asked above the number that was kept
 asked_above : (core : Core) (e : CoreEvent) → IfSome (core_asks core e) (λ s. core.node.kept < s)
 asked_above core (Issue now seq id full) = asks_above core.node (nodes.Issue now seq id full)
-asked_above core (Frame now bytes) = tt
 asked_above core (Timer now) = asks_above core.node (nodes.Timer now)
-asked_above core (Submit now tx) = tt
-asked_above core (Greet member) = tt
-asked_above core (Drain member room) = tt
-asked_above core (Reports room) = tt
-asked_above core Stop = tt
-asked_above core Stopped = tt
-asked_above core (Relist now list) = tt
+asked_above core other = tt
 
 torn_at : (w : World) (i now number : ℕ) (e : CoreEvent) → IsSound w → (o : Option Place) → place_at i w.places ≡ o → IsSound (torn w i now number o (asked_at o e))
 torn_at w i now number e sound None at = sound

@@ -6,7 +6,6 @@ use Rattle.std.proofs.lemmas.List.Elements.{All-head, All-tail}
 use Rattle.xl_io.specs.Keepers.{may_hold}
 use Rattle.xl_core.specs.Answers.{Answer}
 use Rattle.xl_core.specs.declared.event.CoreEvent.{CoreEvent}
-use Rattle.xl_core.specs.declared.event.CoreEvent.TheVariants.{Issue, Frame, Timer, Submit, Greet, Drain, Reports, Stop, Stopped, Relist}
 use Rattle.xl_sched.specs.declared.event.What.{What}
 use Rattle.xl_world.specs.declared.place.Fate.{Fate}
 use Rattle.xl_world.specs.declared.place.Place.{Place}
@@ -17,33 +16,12 @@ use Rattle.xl_world.specs.World.{World, Step, Act, Again, Torn, Mark, place_at, 
 use Rattle.xl_world.proofs.Fitting.{Does, OfAll, OfList, steps_do}
 
 abbrev pub SetsNone : CoreEvent → Type 0
-SetsNone (Issue now seq id full) = Unit {0}
-SetsNone (Frame now bytes) = Unit {0}
-SetsNone (Timer now) = Unit {0}
-SetsNone (Submit now tx) = Unit {0}
-SetsNone (Greet member) = Unit {0}
-SetsNone (Drain member room) = Unit {0}
-SetsNone (Reports room) = Unit {0}
-SetsNone Stop = Unit {0}
-SetsNone Stopped = Unit {0}
-SetsNone (Relist now list) = ⊥
-
-none_set : (i : ℕ) (e : CoreEvent) (a : Answer) → SetsNone e → set_by i e a ≡ None
-none_set i (Issue now seq id full) a none = refl
-none_set i (Frame now bytes) a none = refl
-none_set i (Timer now) a none = refl
-none_set i (Submit now tx) a none = refl
-none_set i (Greet member) a none = refl
-none_set i (Drain member room) a none = refl
-none_set i (Reports room) a none = refl
-none_set i Stop a none = refl
-none_set i Stopped a none = refl
-none_set i (Relist now list) a none = absurd none
+SetsNone e = (i : ℕ) (a : Answer) → set_by i e a ≡ None
 
 act_stays : (w : World) (i : ℕ) (e : CoreEvent) (fate : Fate) → SetsNone e → (o : Option Place) → (acts w i e fate o).lists ≡ w.lists
 act_stays w i e fate none None = refl
 act_stays w i e fate none (Some p) =
-    ap (λ (set : Option InForce). w.lists ++ option_to_list set) (none_set p.core.node.me e (reply_at p e fate).answer none) ∙ append-nil w.lists
+    ap (λ (set : Option InForce). w.lists ++ option_to_list set) (none p.core.node.me (reply_at p e fate).answer) ∙ append-nil w.lists
 
 again_stays : (w : World) (i now number : ℕ) (o : Option Place) → (again w i now number o).lists ≡ w.lists
 again_stays w i now number None = refl
@@ -67,13 +45,13 @@ run_stays w (s ∷ ss) none = run_stays (step w s) ss (All-tail (Does SetsNone) 
 
 all_set_none : OfAll SetsNone
 all_set_none = record {
-  issues = λ now seq id full. tt;
-  frames = λ now bytes. tt;
-  timers = λ now. tt;
-  submits = λ now tx. tt;
-  greets = λ member. tt;
-  drains = λ member room. tt;
-  reports = λ room. tt;
+  issues = λ now seq id full i a. refl;
+  frames = λ now bytes i a. refl;
+  timers = λ now i a. refl;
+  submits = λ now tx i a. refl;
+  greets = λ member i a. refl;
+  drains = λ member room i a. refl;
+  reports = λ room i a. refl;
 }
 
 -- an event of a schedule that sets no list leaves those that were in force

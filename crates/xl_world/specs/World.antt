@@ -2,11 +2,11 @@
 -- like any other, and what a drain gives is what was sent. Whatever was ever sent may come never, once or often, at
 -- any later place. Source: Chase and MacBrough, "Analysis of the XRP Ledger Consensus Protocol" (2018); restarts,
 -- disks and queues by this profile.
-use Rattle.std.specs.Prelude.{ℕ, All, ◌==◌, Bool, false, List, [], ◌∷◌, ◌++◌, length, map, option_map, option_to_list, find, if◌then◌else◌}
+use Rattle.std.specs.Prelude.{ℕ, All, IfSome, ◌==◌, Bool, false, List, [], ◌∷◌, ◌++◌, length, map, option_map, option_to_list, find, if◌then◌else◌}
 use Rattle.std.specs.Prelude.{Some, None}
 use Rattle.std.specs.declared.option.Option.{Option}
 use Rattle.xl_io.specs.Keepers.{may_hold}
-use Rattle.xl_lists.specs.Lists.{TrustedList, IsValid}
+use Rattle.xl_lists.specs.Lists.{TrustedList}
 use Rattle.xl_lists.specs.declared.said.SaidLedger.{SaidLedger}
 use Rattle.xl_lists.specs.declared.report.Report.{Report as Reported}
 use Rattle.xl_lists.specs.Agreement.{with_said}
@@ -14,10 +14,11 @@ use Rattle.xl_base.specs.Counts.{one_more}
 use Rattle.xl_wire.specs.declared.validation.Validation.{Validation}
 use Rattle.xl_wire.specs.Heads.{split_of}
 use Rattle.xl_core.specs.declared.event.CoreEvent.{CoreEvent}
-use Rattle.xl_core.specs.declared.event.CoreEvent.TheVariants.{Issue, Frame, Timer, Submit, Greet, Drain, Reports, Stop, Stopped, Relist}
+use Rattle.xl_core.specs.declared.event.CoreEvent.TheVariants.{Issue, Frame, Timer, Submit, Relist}
 use Rattle.xl_core.specs.declared.report.Report.{Report}
-use Rattle.xl_core.specs.Answers.{Answer, Refused, Took, Beats, Done, Gave, Handed, Told}
-use Rattle.xl_core.specs.Core.{Core, CoreReply, answering, core_happens, core_asks, with_queues}
+use Rattle.xl_core.specs.Answers.{Answer, Refused, Done, Gave}
+use Rattle.xl_core.specs.Core.{Core, CoreReply, answering, core_happens, core_asks, node_event, with_queues}
+use Rattle.xl_core.specs.Lives.{IsFitEvent as IsFitForNode}
 use Rattle.xl_core.specs.Node.{Node, opened, settings_of}
 use Rattle.xl_world.specs.Sending.{Sent}
 use Rattle.xl_world.specs.declared.plan.InForce.{InForce}
@@ -57,16 +58,7 @@ pub data Step : Type 0 where
 
 -- a list that is handed in is one
 abbrev pub IsFitEvent : CoreEvent → Type 0
-IsFitEvent (Issue now seq id full) = Unit {0}
-IsFitEvent (Frame now bytes) = Unit {0}
-IsFitEvent (Timer now) = Unit {0}
-IsFitEvent (Submit now tx) = Unit {0}
-IsFitEvent (Greet member) = Unit {0}
-IsFitEvent (Drain member room) = Unit {0}
-IsFitEvent (Reports room) = Unit {0}
-IsFitEvent Stop = Unit {0}
-IsFitEvent Stopped = Unit {0}
-IsFitEvent (Relist now list) = IsValid list
+IsFitEvent e = IfSome (node_event e) IsFitForNode
 
 abbrev pub IsFit : Step → Type 0
 IsFit (Act i event fate) = IsFitEvent event
@@ -94,49 +86,23 @@ put p (x ∷ xs) = if x.core.node.me == p.core.node.me then p ∷ xs else x ∷ 
 
 -- the frames that an answer gives, from this number
 abbrev pub sent_in : ℕ → Answer → List Sent
-sent_in from (Refused why) = []
-sent_in from (Took taken) = []
-sent_in from (Beats beat) = []
-sent_in from Done = []
 sent_in from (Gave to frames) = map (λ bytes. record { from = from; to = to; bytes = bytes }) frames
-sent_in from (Handed reports) = []
-sent_in from (Told stopped) = []
+sent_in from other = []
 
 -- whether what comes to a node is forged
 abbrev pub is_forged : World → Node → CoreEvent → Bool
-is_forged w n (Issue now seq id full) = false
 is_forged w n (Frame now bytes) = forges w.liars w.sent n.keys bytes (split_of bytes)
-is_forged w n (Timer now) = false
-is_forged w n (Submit now tx) = false
-is_forged w n (Greet member) = false
-is_forged w n (Drain member room) = false
-is_forged w n (Reports room) = false
-is_forged w n Stop = false
-is_forged w n Stopped = false
-is_forged w n (Relist now list) = false
+is_forged w n other = false
 
 -- the list that comes into force at the node of a number, unless the answer refuses it
 abbrev pub list_set : ℕ → TrustedList → Answer → Option InForce
 list_set i list (Refused why) = None
-list_set i list (Took taken) = Some (record { node = i; list = list })
-list_set i list (Beats beat) = Some (record { node = i; list = list })
-list_set i list Done = Some (record { node = i; list = list })
-list_set i list (Gave to frames) = Some (record { node = i; list = list })
-list_set i list (Handed reports) = Some (record { node = i; list = list })
-list_set i list (Told stopped) = Some (record { node = i; list = list })
+list_set i list other = Some (record { node = i; list = list })
 
 -- the list that an event with this answer sets
 abbrev pub set_by : ℕ → CoreEvent → Answer → Option InForce
-set_by i (Issue now seq id full) a = None
-set_by i (Frame now bytes) a = None
-set_by i (Timer now) a = None
-set_by i (Submit now tx) a = None
-set_by i (Greet member) a = None
-set_by i (Drain member room) a = None
-set_by i (Reports room) a = None
-set_by i Stop a = None
-set_by i Stopped a = None
 set_by i (Relist now list) a = list_set i list a
+set_by i other a = None
 
 -- the world after what came of an event at a node, and the list that it set, with its disk then
 abbrev pub settled : World → ℕ → Bool → Option InForce → CoreReply → Disk → World
@@ -188,12 +154,8 @@ moment_in (Issue now seq id full) = now
 moment_in (Frame now bytes) = now
 moment_in (Timer now) = now
 moment_in (Submit now tx) = now
-moment_in (Greet member) = 0
-moment_in (Drain member room) = 0
-moment_in (Reports room) = 0
-moment_in Stop = 0
-moment_in Stopped = 0
 moment_in (Relist now list) = now
+moment_in other = 0
 
 abbrev pub asked_at : Option Place → CoreEvent → Option ℕ
 asked_at None event = None

@@ -6,7 +6,7 @@ ghost use Rattle.xl_world.specs.declared.outcome.Outcome.TheVariants.{Preferred}
 ghost use Rattle.xl_world.specs.World.{place_at};
 ghost use Rattle.xl_world.specs.Emptying.{handed_out};
 ghost use Rattle.xl_world.specs.Rested.{IsRested};
-ghost use Rattle.xl_world.specs.Seen.{AnswersAt, IsAnswer, MayDo, acted_at, deed_event, is_relisted, no_answer, place_after, said_by_beat, said_in};
+ghost use Rattle.xl_world.specs.Seen.{IsAnswer, MayDo, deed_event, is_relisted, no_answer, place_after, said_by_beat, said_in};
 
 use crate::Outcome;
 use crate::place::{Fate, NodeCore, Place};
@@ -112,16 +112,18 @@ fn take_report(core: &mut NodeCore, report: &mut Option<Report>)
 
 impl Place {
     /// Something happens at the core, and the save that it asks, if any, meets a fate. The report that arises is taken.
-    /// What comes of it is put into its last place at once: an answer is large, and each call on its way would copy it.
+    /// What comes of it is put into its last place at once, over what came before: an answer is large, and each call on
+    /// its way would copy it.
     // Its values are many, and in the caller's they would be moved about.
     #[inline(never)]
     pub fn happens(&mut self, deed: &Deed<'_>, fate: Fate, answer: &mut NodeAnswer)
         requires rested { IsRested self.old.core }
         requires may { MayDo self.old.core.node.me deed.now }
-        requires fresh { answer.old ≡ no_answer }
         ensures place { self.new ≡ place_after self.old (deed_event self.old.core.node.me deed.now) fate }
         ensures answer { IsAnswer self.old (deed_event self.old.core.node.me deed.now) fate answer.new }
     {
+        answer.said = None;
+        answer.report = None;
         let me = self.core.node().me();
         let mut fated = Fated {
             disk: self.disk,
@@ -181,24 +183,6 @@ pub fn preferred_at(places: &[Place], i: NodeNo) -> Option<Outcome>
                 node: i,
                 at: place.core.preferred(),
             })
-        }
-        None => None,
-    }
-}
-
-/// Something happens at the node of a number, if there is one.
-pub fn act_at(places: &mut [Place], i: NodeNo, deed: &Deed<'_>, fate: Fate) -> Option<NodeAnswer>
-    requires rested { (p : _) → place_at i places.old ≡ Some p → IsRested p.core }
-    requires may { MayDo i deed.now }
-    ensures places { places.new ≡ acted_at i (deed_event i deed.now) fate places.old }
-    ensures answer { AnswersAt i (deed_event i deed.now) fate places.old result }
-{
-    match position_of(places, i) {
-        Some(k) => {
-            let mut answer = NodeAnswer::nothing();
-            let place = &mut places[k];
-            place.happens(deed, fate, &mut answer);
-            Some(answer)
         }
         None => None,
     }

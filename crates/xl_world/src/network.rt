@@ -1,28 +1,26 @@
 // The nodes of a world, and each event of a schedule in it.
-ghost use Rattle.std.specs.Prelude.{if◌then◌else◌};
-ghost use Rattle.xl_base.specs.Counts.{one_more};
 ghost use Rattle.xl_world.specs.Schedule.{event_asked, failing, node_asked};
 ghost use Rattle.xl_world.specs.Seen.{MayDo, deed_event};
 ghost use Rattle.std.specs.Prelude.{◌≡◌, ◌≤◌};
 ghost use Rattle.xl_base.specs.Moments.{greatest_millis};
 
-use crate::act::{NodeAnswer, act_at, core_at, preferred_at};
-use crate::anew::{disk_at, reopen_at};
+mod handing;
+mod reopening;
+
+use crate::act::{NodeAnswer, core_at, position_of, preferred_at};
 use crate::draining::drain_at;
 use crate::extent::Extent;
-use crate::forged::{is_forged, is_liar};
-use crate::lie::{put_blank_lie, put_lie};
 use crate::members::Members;
-use crate::place::{Disk, Fate, NodeCore, Place};
+use crate::place::{Fate, NodeCore, Place};
 use crate::settle::{note_list, note_report, push_some, tell, tell_heard_at};
 use crate::traffic::Traffic;
-use crate::{Happened, InForce, Outcome, Plan, WorldReport, open};
+use crate::{InForce, Outcome, Plan, WorldReport, open};
 use std::alloc::Global;
 use std::marker::Model;
 use xl_base::{Millis, NodeNo, OutOfMemory};
 use xl_core::Deed;
 use xl_lists::SaidLedger;
-use xl_sched::{Ask, Event, Lied, What};
+use xl_sched::{Ask, What};
 use xl_wire::LONGEST_FRAME;
 
 /// The nodes of a world, and all that they ever sent, said and reported. A call that runs out of memory may leave it in
@@ -53,32 +51,17 @@ impl Model for Network {
 }
 
 impl Network {
-    ghost use Rattle.std.specs.Prelude.{◌≡◌, ◌≤◌, ◌++◌, length, option_copied, slice_get, Some, IfOk, OnOk};
+    ghost use Rattle.std.specs.Prelude.{◌≡◌, ◌≤◌, ◌++◌, [], length, option_copied, Some, IfOk, OnOk};
     ghost use Rattle.xl_base.specs.Moments.{greatest_millis};
     ghost use Rattle.xl_ledger.specs.Limits.{greatest_limit, least_limit};
-    ghost use Rattle.xl_sched.specs.Fits.{IsFitLied};
     ghost use Rattle.xl_world.specs.Plans.{AreDeclared, AreTimely};
     ghost use Rattle.xl_world.specs.Starts.{start};
-    ghost use Rattle.xl_world.specs.World.{core_in, marked, place_at, run};
+    ghost use Rattle.xl_world.specs.World.{core_in, place_at, run};
     ghost use Rattle.xl_world.specs.Emptying.{event_steps};
     ghost use Rattle.xl_world.specs.Ends.{Grows, cut_back, extent_of};
     ghost use Rattle.xl_world.specs.Rested.{IsAtRest, IsRested};
-    ghost use Rattle.xl_world.specs.Schedule.{
-      IsPlausible,
-      ask_steps,
-      cut_steps,
-      delivery_of,
-      event_asked,
-      greet_steps,
-      hand_steps,
-      lied_bytes,
-      node_asked,
-      outcomes_at,
-      steps_at,
-      timers,
-      told_in,
-    };
-    ghost use Rattle.xl_world.specs.Seen.{MayDo, deed_event, noted, outcomes_told, put_again, with_forged, with_places};
+    ghost use Rattle.xl_world.specs.Schedule.{IsPlausible, ask_steps, greet_steps, outcomes_at, steps_at, timers, told_in};
+    ghost use Rattle.xl_world.specs.Seen.{MayDo, deed_event, noted, outcomes_told, with_forged};
     ghost use Rattle.xl_world.specs.declared.place.Fate.TheVariants.{Saved};
 
     /// The network of a plan, at its start.
@@ -136,6 +119,7 @@ impl Network {
         i: NodeNo,
         deed: &Deed<'_>,
         fate: Fate,
+        answer: &mut NodeAnswer,
         told: &mut Vec<Outcome>,
     ) -> Result<(), OutOfMemory>
         requires rest { IsAtRest self.old }
@@ -146,10 +130,12 @@ impl Network {
             ≡ told.old.items ++ told_in self.old (event_steps self.old i (deed_event i deed.now) fate)) }
         ensures grows { Grows self.old self.new }
     {
-        match act_at(&mut self.places, i, deed, fate) {
-            Some(ref answer) => self.settle(i, answer, told),
-            None => Ok(()),
-        }
+        let Some(k) = position_of(&self.places, i) else {
+            return Ok(());
+        };
+        let place = &mut self.places[k];
+        place.happens(deed, fate, answer);
+        self.settle(i, answer, told)
     }
 
     /// A node is asked something, and its save, if any, meets a fate.
@@ -158,6 +144,7 @@ impl Network {
         at: Millis,
         ask: &Ask,
         fate: Fate,
+        answer: &mut NodeAnswer,
         told: &mut Vec<Outcome>,
     ) -> Result<(), OutOfMemory>
         requires moment { at ≤ greatest_millis }
@@ -168,11 +155,16 @@ impl Network {
         ensures grows { Grows self.old self.new }
     {
         let (node, deed) = asked_by(at, ask);
-        self.act(node, &deed, fate, told)
+        self.act(node, &deed, fate, answer, told)
     }
 
     /// A timer comes to each node, by rising number.
-    fn timers(&mut self, at: Millis, told: &mut Vec<Outcome>) -> Result<(), OutOfMemory>
+    fn timers(
+        &mut self,
+        at: Millis,
+        answer: &mut NodeAnswer,
+        told: &mut Vec<Outcome>,
+    ) -> Result<(), OutOfMemory>
         requires moment { at ≤ greatest_millis }
         requires rest { IsAtRest self.old }
         ensures world { OnOk result (self.new ≡ run self.old (timers self.old at self.old.numbers)) }
@@ -182,7 +174,7 @@ impl Network {
     {
         for k in 0..self.numbers.as_slice().len() {
             let node = self.numbers.as_slice()[k];
-            self.ask(at, &Ask::Timer { node }, Fate::Saved, told)?;
+            self.ask(at, &Ask::Timer { node }, Fate::Saved, answer, told)?;
         }
         Ok(())
     }
@@ -193,6 +185,7 @@ impl Network {
         node: NodeNo,
         peer: NodeNo,
         deed: &Deed<'_>,
+        answer: &mut NodeAnswer,
         told: &mut Vec<Outcome>,
     ) -> Result<(), OutOfMemory>
         requires deed { deed.now ≡ Deed.Greet peer }
@@ -207,193 +200,18 @@ impl Network {
         }
         // A member's number, for which there is a key.
         let _number = peer.get();
-        self.act(node, deed, Fate::Saved, told)
+        self.act(node, deed, Fate::Saved, answer, told)
     }
 
-    /// The sent frame of a place, from 0 on, is handed to its receiver; to a liar that does nothing. It isn't forged,
-    /// since it was sent.
-    fn deliver(
+    /// Something happens at a moment. What is told of it comes after what was told, and the answer is the one place into
+    /// which each node that something happens at writes what came of it.
+    pub fn happen(
         &mut self,
         at: Millis,
-        place: usize,
+        what: &What,
+        answer: &mut NodeAnswer,
         told: &mut Vec<Outcome>,
     ) -> Result<(), OutOfMemory>
-        requires moment { at ≤ greatest_millis }
-        requires rest { IsAtRest self.old }
-        ensures world { OnOk result
-            (self.new ≡ run self.old (delivery_of self.old at (slice_get self.old.sent place))) }
-        ensures told { OnOk result (told.new.items
-            ≡ told.old.items ++ told_in self.old (delivery_of self.old at (slice_get self.old.sent place))) }
-        ensures grows { Grows self.old self.new }
-    {
-        let Some(frame) = self.traffic.frame(place) else {
-            return Ok(());
-        };
-        let to = frame.to();
-        let length = frame.put(&mut self.room);
-        let kept = &self.room[..length];
-        let deed = Deed::Sealed {
-            now: at,
-            bytes: kept,
-        };
-        match act_at(&mut self.places, to, &deed, Fate::Saved) {
-            Some(ref answer) => self.settle(to, answer, told),
-            None => Ok(()),
-        }
-    }
-
-    /// The sent frames after the mark are handed to their receivers, and the mark moves to the end.
-    fn deliver_all(&mut self, at: Millis, told: &mut Vec<Outcome>) -> Result<(), OutOfMemory>
-        requires moment { at ≤ greatest_millis }
-        requires rest { IsAtRest self.old }
-        ensures world { OnOk result (self.new ≡ run self.old (steps_at self.old at What.All)) }
-        ensures told { OnOk result (told.new.items ≡ told.old.items ++ outcomes_at self.old at What.All) }
-        ensures grows { Grows self.old self.new }
-    {
-        for place in self.traffic.mark()..self.traffic.sent().len() {
-            self.deliver(at, place, told)?;
-        }
-        self.traffic.move_mark();
-        Ok(())
-    }
-
-    /// Bytes are handed to a node that no node need have sent.
-    fn hand_in(
-        &mut self,
-        at: Millis,
-        to: NodeNo,
-        bytes: &[u8],
-        told: &mut Vec<Outcome>,
-    ) -> Result<(), OutOfMemory>
-        requires moment { at ≤ greatest_millis }
-        requires rest { IsAtRest self.old }
-        ensures world { OnOk result (self.new ≡ run self.old (hand_steps self.old at to bytes.now)) }
-        ensures told { OnOk result (told.new.items
-            ≡ told.old.items ++ told_in self.old (hand_steps self.old at to bytes.now)) }
-        ensures grows { Grows self.old self.new }
-    {
-        let forged = is_forged(&self.liars, &mut self.traffic, &self.places, to, bytes);
-        let deed = Deed::Frame { now: at, bytes };
-        self.act(to, &deed, Fate::Saved, told)?;
-        self.forged = counted(self.forged, forged);
-        Ok(())
-    }
-
-    /// What a liar says comes to a node. It isn't forged, since a declared liar signed it, and its tag is the right one,
-    /// so neither is looked at.
-    fn lie(
-        &mut self,
-        at: Millis,
-        from: NodeNo,
-        to: NodeNo,
-        lie: &Lied,
-        told: &mut Vec<Outcome>,
-    ) -> Result<(), OutOfMemory>
-        requires moment { at ≤ greatest_millis }
-        requires rest { IsAtRest self.old }
-        requires fit { IsFitLied lie.now }
-        ensures world { OnOk result (self.new ≡ run self.old (hand_steps self.old at to (lied_bytes from to lie.now))) }
-        ensures told { OnOk result (told.new.items
-            ≡ told.old.items ++ told_in self.old (hand_steps self.old at to (lied_bytes from to lie.now))) }
-        ensures grows { Grows self.old self.new }
-    {
-        if !is_liar(&self.liars, from.get()) {
-            return self.hand_in_lie(at, from, to, lie, told);
-        }
-        let length = put_blank_lie(from, to, lie, &mut *self.room);
-        let kept = &self.room[..length];
-        let deed = Deed::Sealed {
-            now: at,
-            bytes: kept,
-        };
-        match act_at(&mut self.places, to, &deed, Fate::Saved) {
-            Some(ref answer) => self.settle(to, answer, told),
-            None => Ok(()),
-        }
-    }
-
-    /// The frame of a lie is handed to a node, and may be forged: nobody declared its sender as a liar.
-    // Its frame is large, and in the caller's each lie would pay for it.
-    #[inline(never)]
-    fn hand_in_lie(
-        &mut self,
-        at: Millis,
-        from: NodeNo,
-        to: NodeNo,
-        lie: &Lied,
-        told: &mut Vec<Outcome>,
-    ) -> Result<(), OutOfMemory>
-        requires moment { at ≤ greatest_millis }
-        requires rest { IsAtRest self.old }
-        requires fit { IsFitLied lie.now }
-        ensures world { OnOk result (self.new ≡ run self.old (hand_steps self.old at to (lied_bytes from to lie.now))) }
-        ensures told { OnOk result (told.new.items
-            ≡ told.old.items ++ told_in self.old (hand_steps self.old at to (lied_bytes from to lie.now))) }
-        ensures grows { Grows self.old self.new }
-    {
-        let mut room = [0; LONGEST_FRAME];
-        let length = put_lie(from, to, lie, &mut room);
-        self.hand_in(at, to, &room[..length], told)
-    }
-
-    /// The node of a number, if there is one, is opened anew in its place, with what its disk then holds.
-    fn reopen(&mut self, at: Millis, node: NodeNo, disk: Disk) -> Result<(), OutOfMemory>
-        requires { at ≤ greatest_millis }
-        ensures places { OnOk result (self.new
-            ≡ with_places self.old (put_again at disk (place_at node self.old.places) self.old.places)) }
-        ensures grows { Grows self.old self.new }
-    {
-        reopen_at(self.alloc, &mut self.places, node, at, disk)
-    }
-
-    /// Opens a node anew with the number that its disk holds.
-    fn restart(&mut self, at: Millis, node: NodeNo) -> Result<(), OutOfMemory>
-        requires moment { at ≤ greatest_millis }
-        requires rest { IsAtRest self.old }
-        ensures world { OnOk result (self.new ≡ run self.old (steps_at self.old at (What.Restart node))) }
-        ensures grows { Grows self.old self.new }
-    {
-        match disk_at(&self.places, node) {
-            Some(disk) => self.reopen(at, node, disk.restored(disk.found())),
-            None => Ok(()),
-        }
-    }
-
-    /// A node is asked something, and its save is cut off, which leaves the new number or the old one; it is opened
-    /// anew then. If no save is asked, it is opened anew after what it was asked came to its end.
-    fn cut(
-        &mut self,
-        at: Millis,
-        new: bool,
-        ask: &Ask,
-        told: &mut Vec<Outcome>,
-    ) -> Result<(), OutOfMemory>
-        requires moment { at ≤ greatest_millis }
-        requires rest { IsAtRest self.old }
-        ensures world { OnOk result (self.new ≡ run self.old (steps_at self.old at (What.Cut new ask.now))) }
-        ensures told { OnOk result (told.new.items ≡ told.old.items ++ outcomes_at self.old at (What.Cut new ask.now)) }
-        ensures grows { Grows self.old self.new }
-    {
-        let (node, deed) = asked_by(at, ask);
-        let Some(disk) = disk_at(&self.places, node) else {
-            return Ok(());
-        };
-        // A save that is cut off is tried as one that fails: what comes of it ends with the node, and its disk is as
-        // it was before.
-        let Some(answer) = act_at(&mut self.places, node, &deed, Fate::Unwritten) else {
-            return Ok(());
-        };
-        match answer.asked {
-            Some(seq) => self.reopen(at, node, disk.restored(disk.left_by(new, seq))),
-            None => {
-                self.settle(node, &answer, told)?;
-                self.reopen(at, node, disk.restored(disk.found()))
-            }
-        }
-    }
-
-    /// Something happens at a moment, and what is told of it comes after what was told.
-    fn take(&mut self, at: Millis, what: &What, told: &mut Vec<Outcome>) -> Result<(), OutOfMemory>
         requires moment { at ≤ greatest_millis }
         requires rest { IsAtRest self.old }
         requires plausible { IsPlausible what.now }
@@ -402,50 +220,41 @@ impl Network {
         ensures grows { Grows self.old self.new }
     {
         match what {
-            What::Ask(ask) => self.ask(at, ask, Fate::Saved, told),
-            What::Timers => self.timers(at, told),
+            // As `ask`, without its call: this comes most often.
+            What::Ask(ask) => {
+                let (node, deed) = asked_by(at, ask);
+                self.act(node, &deed, Fate::Saved, answer, told)
+            }
+            What::Timers => self.timers(at, answer, told),
             What::Submit { node, tx } => {
                 let deed = Deed::Submit { now: at, tx: *tx };
-                self.act(*node, &deed, Fate::Saved, told)
+                self.act(*node, &deed, Fate::Saved, answer, told)
             }
             What::Greet { node, peer } => {
-                self.greet(*node, *peer, &Deed::Greet { member: *peer }, told)
+                let deed = Deed::Greet { member: *peer };
+                self.greet(*node, *peer, &deed, answer, told)
             }
             What::Deliver { place } => match place.checked_sub(1) {
-                Some(before) => self.deliver(at, before as usize, told),
+                Some(before) => self.deliver(at, before as usize, answer, told),
                 None => Ok(()),
             },
-            What::All => self.deliver_all(at, told),
+            What::All => self.deliver_all(at, answer, told),
             What::Drop => {
                 self.traffic.move_mark();
                 Ok(())
             }
             What::Restart { node } => self.restart(at, *node),
-            What::Cut { new, ask } => self.cut(at, *new, ask, told),
-            What::Fail { new, ask } => self.ask(at, ask, failing(*new), told),
-            What::Lie { from, to, what } => self.lie(at, *from, *to, what, told),
-            What::Raw { to, bytes } => self.hand_in(at, *to, bytes.as_slice(), told),
+            What::Cut { new, ask } => self.cut(at, *new, ask, answer, told),
+            What::Fail { new, ask } => self.ask(at, ask, failing(*new), answer, told),
+            What::Lie { from, to, what } => self.lie(at, *from, *to, what, answer, told),
+            What::Raw { to, bytes } => self.hand_in(at, *to, bytes.as_slice(), answer, told),
             What::Prefer { node } => push_some(told, preferred_at(&self.places, *node)),
             What::List { node, list } => {
                 let deed = Deed::Relist { now: at, list };
-                self.act(*node, &deed, Fate::Saved, told)
+                self.act(*node, &deed, Fate::Saved, answer, told)
             }
             What::Heard { node } => tell_heard_at(told, &self.places, *node),
         }
-    }
-
-    /// An event of a schedule, and what is told of it, in order.
-    pub fn happen(&mut self, event: &Event) -> Result<Happened, OutOfMemory>
-        requires moment { event.now.at ≤ greatest_millis }
-        requires rest { IsAtRest self.old }
-        requires plausible { IsPlausible event.now.what }
-        ensures world { OnOk result (self.new ≡ run self.old (steps_at self.old event.now.at event.now.what)) }
-        ensures told { IfOk result (λ told. told ≡ outcomes_at self.old event.now.at event.now.what) }
-        ensures grows { Grows self.old self.new }
-    {
-        let mut told = Vec::new(self.alloc);
-        self.take(event.at, &event.what, &mut told)?;
-        Ok(Happened::from_vec(told))
     }
 
     /// The core of a number, where there is one.
@@ -453,6 +262,13 @@ impl Network {
         ensures { option_copied result ≡ core_in self.now node }
     {
         core_at(&self.places, node)
+    }
+
+    /// A place for what is told, in which nothing is yet.
+    pub fn nothing_told(&self) -> Vec<Outcome>
+        ensures { result.items ≡ [] }
+    {
+        Vec::new(self.alloc)
     }
 
     /// How much it has told.
@@ -484,17 +300,6 @@ impl Network {
         self.reports.truncate(before.reports);
         self.lists.truncate(before.lists);
         self.forged = before.forged;
-    }
-}
-
-/// The count, with one more if something was forged.
-fn counted(count: u64, forged: bool) -> u64
-    ensures { result ≡ (if forged then one_more count else count) }
-{
-    if forged {
-        count.saturating_add(1)
-    } else {
-        count
     }
 }
 

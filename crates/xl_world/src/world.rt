@@ -1,6 +1,6 @@
 mod readers;
 
-use crate::act::list_at;
+use crate::act::{NodeAnswer, list_at};
 use crate::agreement::all_agree;
 use crate::network::Network;
 use crate::place::NodeCore;
@@ -18,6 +18,8 @@ use xl_sched::Event;
 #[derive(Drop)]
 pub struct World {
     network: Network,
+    /// What came of the last thing that happened at a node: an answer is large, so it has one place.
+    answer: NodeAnswer,
     spent: bool,
 }
 
@@ -58,6 +60,7 @@ impl World {
     {
         Ok(World {
             network: Network::open(alloc, plan)?,
+            answer: NodeAnswer::nothing(),
             spent: false,
         })
     }
@@ -78,8 +81,12 @@ impl World {
             return Err(OutOfMemory);
         }
         let before = self.network.extent();
-        match self.network.happen(event) {
-            Ok(told) => Ok(told),
+        let mut told = self.network.nothing_told();
+        match self
+            .network
+            .happen(event.at, &event.what, &mut self.answer, &mut told)
+        {
+            Ok(()) => Ok(Happened::from_vec(told)),
             Err(fault) => {
                 self.network.end(&before);
                 self.spent = true;

@@ -1,18 +1,27 @@
 ghost use Rattle.std.specs.Prelude.{◌≡◌, ◌↔◌, ◌<◌, ◌≤◌, Some, Ok, Err, ℕ, None};
 ghost use Rattle.xl_base.specs.Moments.{greatest_millis};
-ghost use Rattle.xl_core.specs.Node.{Issue, happens, reporting, with_own, arisen, issuing_reply, asks_for, own_issued_reply, IsOff, told_by};
+ghost use Rattle.xl_core.specs.Node.{Issue, happens, asks_for, issuing_reply, own_issued_reply, IsOff, told_by};
 ghost use Rattle.xl_core.specs.declared.refusal.Refusal.TheVariants.{NotAfter, IssuingOff};
-ghost use Rattle.xl_core.specs.Answers.{Done};
-ghost use Rattle.xl_core.specs.Replies.{issue_reply, save_in, was_kept};
+ghost use Rattle.xl_core.specs.Replies.{hear_reply, issue_reply, save_in, was_kept};
 ghost use Rattle.xl_core.specs.Keeping.{AsksSave, CountsFault, Holds, IsAsked, Saves};
 
 use super::Node;
-use crate::taken::UNHEARD;
+use crate::taken::{Heard, UNHEARD};
 use crate::{OwnValidation, Refusal, Report};
 use xl_base::{LedgerId, Millis, Seq, secs_of};
 use xl_io::Keeper;
 use xl_ledger::Branch;
 use xl_wire::Validation;
+
+/// The report of what was heard, if it gave one.
+fn report_in(heard: &Result<Heard, Refusal>) -> Option<Report>
+    ensures { (n : _) → result ≡ (hear_reply heard.now n).report }
+{
+    match heard {
+        Ok(heard) => heard.report,
+        Err(_) => None,
+    }
+}
 
 impl<B: Branch + Drop> Node<B> {
     /// Saves a sequence and issues its validation, signed in the second of the node's time. Only after the save does
@@ -41,24 +50,6 @@ impl<B: Branch + Drop> Node<B> {
         ensures later { K.faults keeper.old ≤ K.faults keeper.new }
     {
         self.advance(now);
-        self.issue_now(seq, id, full, keeper)
-    }
-
-    /// Issues as `issue` does, at the node's present time.
-    pub(super) fn issue_now<K: Keeper>(
-        &mut self,
-        seq: Seq,
-        id: LedgerId,
-        full: bool,
-        keeper: &mut K,
-    ) -> Result<OwnValidation, Refusal>
-        ensures exact { issue_reply result self.new ≡ issuing_reply self.old seq id full (save_in result) }
-        ensures not_after { (result ≡ Err (NotAfter self.old.kept)) ↔ (seq ≤ self.old.kept) }
-        ensures off { (failed : ℕ) → (result ≡ Err (IssuingOff failed)) ↔ IsOff self.old seq failed }
-        ensures fault { CountsFault result (K.faults keeper.old) (K.faults keeper.new) }
-        ensures asks { IsAsked K.held K.saves K.faults K.save_gives
-            (asks_for self.old seq) (was_kept result) keeper.old keeper.new }
-    {
         if seq <= self.kept {
             return Err(Refusal::NotAfter(self.kept));
         }
@@ -72,7 +63,24 @@ impl<B: Branch + Drop> Node<B> {
         Ok(self.issue_saved(seq, id, full))
     }
 
-    /// Issues the validation of a sequence that was saved.
+    /// Issues as `issue` does, at the node's present time.
+    pub(super) fn issue_now<K: Keeper>(
+        &mut self,
+        seq: Seq,
+        id: LedgerId,
+        full: bool,
+        keeper: &mut K,
+    ) -> Result<OwnValidation, Refusal>
+        ensures exact { issue_reply result self.new ≡ issuing_reply self.old seq id full (save_in result) }
+        ensures fault { CountsFault result (K.faults keeper.old) (K.faults keeper.new) }
+        ensures asks { IsAsked K.held K.saves K.faults K.save_gives
+            (asks_for self.old seq) (was_kept result) keeper.old keeper.new }
+    {
+        let now = self.time;
+        self.issue(now, seq, id, full, keeper)
+    }
+
+    /// Issues the validation of a sequence that was saved. The own row takes it, if the node stands on its list.
     fn issue_saved(&mut self, seq: Seq, id: LedgerId, full: bool) -> OwnValidation
         ensures { issue_reply (Ok result) self.new ≡ own_issued_reply self.old seq id full }
     {
@@ -84,8 +92,19 @@ impl<B: Branch + Drop> Node<B> {
             validated: self.told(),
         };
         self.kept = seq;
-        let report = self.take_own(&validation);
-        OwnValidation { validation, report }
+        let me = self.me;
+        if !self.list.has(me) {
+            return OwnValidation {
+                validation,
+                report: None,
+            };
+        }
+        let mut heard = UNHEARD;
+        self.take(me, &validation, &mut heard);
+        OwnValidation {
+            validation,
+            report: report_in(&heard),
+        }
     }
 
     /// What its validations tell of the ledger that it last reported: nothing in version 1.
@@ -99,23 +118,6 @@ impl<B: Branch + Drop> Node<B> {
             })
         } else {
             None
-        }
-    }
-
-    /// The own row takes what was issued, if the node stands on its list.
-    pub(super) fn take_own(&mut self, v: &Validation) -> Option<Report>
-        ensures node { self.new ≡ (reporting (with_own self.old v.now) Done (Some v.now)).node }
-        ensures report { result ≡ arisen (with_own self.old v.now) }
-    {
-        let me = self.me;
-        if !self.list.has(me) {
-            return None;
-        }
-        let mut heard = UNHEARD;
-        self.take(me, v, &mut heard);
-        match &heard {
-            Ok(heard) => heard.report,
-            Err(_) => None,
         }
     }
 }

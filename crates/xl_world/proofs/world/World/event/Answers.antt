@@ -1,4 +1,5 @@
-use Rattle.std.proofs.Common.{◌∙◌, ap}
+use Rattle.std.proofs.Common.{◌++◌, ◌∙◌, List, ap}
+use Rattle.xl_world.specs.declared.outcome.Outcome.{Outcome}
 use Rattle.xl_world.specs.Schedule.{outcomes_at}
 use Rattle.xl_world.specs.World.{World}
 use Rattle.xl_world.proofs.Ending.{event_same, kept_on, kept_same}
@@ -14,5 +15,7 @@ returns-in-Ok-clause-world c =
 
 pub returns-in-Ok-clause-told : goal.returns-in-Ok-clause-told
 returns-in-Ok-clause-told c =
-    c.in-Ok.ensures.told
-    ∙ ap (λ (w : World). outcomes_at w c.args.event.now.at c.args.event.now.what) (kept_same c.self.inside.spent c.self.inside.network c.args.self.now c.self.view_is c.self.invariant c.if-self.false)
+    c.from_vec.ensures
+    ∙ (c.in-Ok.ensures.told
+    ∙ (ap (λ (os : List Outcome). os ++ outcomes_at c.self.inside.network c.args.event.now.at c.args.event.now.what) c.nothing_told-told.ensures
+    ∙ ap (λ (w : World). outcomes_at w c.args.event.now.at c.args.event.now.what) (kept_same c.self.inside.spent c.self.inside.network c.args.self.now c.self.view_is c.self.invariant c.if-self.false)))
