@@ -1,0 +1,3 @@
+pub mod Equivocations
+pub mod Forks
+pub mod Laws
