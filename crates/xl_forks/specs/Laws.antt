@@ -1,7 +1,7 @@
 -- What equivocations and forks say of what was read. Source: this project's own.
-use Rattle.std.specs.Prelude.{◌≡◌, ℕ, ◌==◌, ◌&&◌, ◌≤◌, ◌<◌, ◌^◌, ¬◌, List, All, Contains, count_by, is_some, IsSome, IsTrue, Some}
+use Rattle.std.specs.Prelude.{◌≡◌, ℕ, ◌≤◌, ◌<◌, ◌^◌, List, Contains, IsTrue, true}
 use Rattle.std.specs.List.{list_any}
-use Rattle.xl_forks.specs.Equivocations.{equivocation_of, equivocations_in, is_of}
+use Rattle.xl_forks.specs.Equivocations.{equivocation_of, equivocations_in, is_of, said_two}
 use Rattle.xl_forks.specs.declared.equivocation.Equivocation.{Equivocation}
 use Rattle.xl_forks.specs.declared.said.Said.{Said}
 
@@ -19,13 +19,9 @@ EquivocationsAreTwo = (said : List Said) (s m : ℕ) (e : Equivocation) → equi
 
 -- and who said two ledgers of a sequence has one
 abbrev pub TwoAreEquivocations : Type 0
-TwoAreEquivocations = (said : List Said) (s m : ℕ) (e : Equivocation) → AreTwo said s m e → IsSome (equivocation_of said s m)
-
--- a member and a sequence, as numbers
-abbrev pub AreNumbers : ℕ → ℕ → Type 0
-AreNumbers s m = (s < 2 ^ 32) × (1 ≤ m) × (m ≤ 64)
+TwoAreEquivocations = (said : List Said) (s m : ℕ) (e : Equivocation) → AreTwo said s m e → said_two said s m ≡ true
 
 -- whoever has one stands among them all, and no one else does
 abbrev pub EachIsAmong : Type 0
-EachIsAmong = (said : List Said) (s m : ℕ) → AreNumbers s m →
-    is_some (equivocation_of said s m) ≡ list_any (λ e. is_of s m e.first) (equivocations_in said)
+EachIsAmong = (said : List Said) (s m : ℕ) → s < 2 ^ 32 → 1 ≤ m → m ≤ 64 →
+    said_two said s m ≡ list_any (λ e. is_of s m e.first) (equivocations_in said)

@@ -1,9 +1,11 @@
 // Who said two ledgers of one sequence.
-ghost use Rattle.std.specs.Prelude.{◌≡◌, IfOk};
+ghost use Rattle.std.specs.Prelude.{◌≡◌, filter_map, All, Some, IfOk};
+ghost use Rattle.std.specs.BTreeMap.{get, IsOrdered};
 ghost use Rattle.xl_forks.specs.Equivocations.{equivocations_in};
+ghost use Rattle.xl_forks.specs.Kept.{by_both, equivocation_kept, words_seen};
 
 use crate::said::Said;
-use crate::words::words_of;
+use crate::words::{WordsByMember, words_of};
 use std::alloc::Global;
 use xl_base::OutOfMemory;
 
@@ -19,8 +21,21 @@ pub fn equivocations(alloc: Global, said: &[Said]) -> Result<Vec<Equivocation>, 
     ensures { IfOk result (λ found. found.items ≡ equivocations_in said.now) }
 {
     let words = words_of(alloc, said)?;
+    equivocations_among(alloc, &words)
+}
+
+/// Those among the words that are kept, in their order.
+fn equivocations_among(
+    alloc: Global,
+    words: &WordsByMember<'_>,
+) -> Result<Vec<Equivocation>, OutOfMemory>
+    ensures value { IfOk result (λ found.
+        found.items ≡ filter_map (λ e. equivocation_kept (words_seen e.1)) words.now.entries) }
+    ensures ordered { IsOrdered by_both words.now }
+    ensures each { All (λ e. get by_both words.now e.0 ≡ Some e.1) words.now.entries }
+{
     let mut found = Vec::new(alloc);
-    for (_, spoken) in &words {
+    for (_, spoken) in words.iter() {
         if let Some(other) = spoken.other {
             found.push(Equivocation {
                 first: *spoken.first,

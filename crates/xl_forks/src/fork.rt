@@ -1,6 +1,9 @@
 // Which reports differ.
-ghost use Rattle.std.specs.Prelude.{◌≡◌, map, IfOk};
-ghost use Rattle.xl_forks.specs.Forks.{forks_in, fork_seen};
+ghost use Rattle.std.specs.Prelude.{◌≡◌, ◌++◌, map, IfOk, OnOk};
+ghost use Rattle.std.specs.Map.Iter.{deref};
+ghost use Rattle.xl_lists.specs.Quorums.{least_shown as least_shown_of};
+ghost use Rattle.xl_forks.specs.Forks.{fork_between as fork_made, fork_seen, forks_in, shown_by};
+ghost use Rattle.xl_forks.specs.Kept.{forks_with, two_kept, AreSorted};
 
 use crate::reported::Reported;
 use crate::said::Said;
@@ -28,7 +31,7 @@ pub fn forks<'a>(
     said: &[Said],
     reported: &'a [Reported],
 ) -> Result<Vec<Fork<'a>>, OutOfMemory>
-    ensures { IfOk result (λ forks. map fork_seen forks.items ≡ forks_in said.now reported.now) }
+    ensures { IfOk result (λ found. map fork_seen found.items ≡ forks_in said.now reported.now) }
 {
     let words = words_of(alloc, said)?;
     let sorted = by_seq(alloc, reported)?;
@@ -40,7 +43,9 @@ pub fn forks<'a>(
 }
 
 /// The reports by rising sequence, those of one sequence as they were read.
-fn by_seq<'a>(alloc: Global, reported: &'a [Reported]) -> Result<Vec<&'a Reported>, OutOfMemory> {
+fn by_seq<'a>(alloc: Global, reported: &'a [Reported]) -> Result<Vec<&'a Reported>, OutOfMemory>
+    ensures { IfOk result (λ sorted. AreSorted reported.now (map deref sorted.items)) }
+{
     let mut sorted = Vec::new(alloc);
     for report in reported {
         sorted.push(report)?;
@@ -55,19 +60,24 @@ fn push_forks_of<'a>(
     words: &WordsByMember<'_>,
     one: &'a Reported,
     behind: &[&'a Reported],
-) -> Result<(), OutOfMemory> {
+) -> Result<(), OutOfMemory>
+    ensures { OnOk result (map fork_seen found.new.items
+        ≡ map fork_seen found.old.items ++ forks_with (two_kept words.now) one.now (map deref behind.now)) }
+{
     for other in behind {
         if other.seq != one.seq {
             return Ok(());
         }
         if other.id != one.id {
-            found.push(fork_of(words, one, other))?;
+            found.push(fork_between(words, one, other))?;
         }
     }
     Ok(())
 }
 
-fn fork_of<'a>(words: &WordsByMember<'_>, one: &'a Reported, other: &'a Reported) -> Fork<'a> {
+fn fork_between<'a>(words: &WordsByMember<'_>, one: &'a Reported, other: &'a Reported) -> Fork<'a>
+    ensures { fork_seen result ≡ fork_made (two_kept words.now) one.now other.now }
+{
     Fork {
         one,
         other,
@@ -77,12 +87,16 @@ fn fork_of<'a>(words: &WordsByMember<'_>, one: &'a Reported, other: &'a Reported
 }
 
 /// At least so many members of both lists said both ledgers.
-fn least_shown(a: &List, b: &List) -> u32 {
+fn least_shown(a: &List, b: &List) -> u32
+    ensures { result ≡ least_shown_of a.now b.now }
+{
     (a.quorum() + b.quorum()).saturating_sub(bound(a, b, &[]))
 }
 
 /// How many members of both lists said two ledgers of the sequence.
-fn shown(words: &WordsByMember<'_>, seq: Seq, a: &List, b: &List) -> u32 {
+fn shown(words: &WordsByMember<'_>, seq: Seq, a: &List, b: &List) -> u32
+    ensures { result ≡ shown_by (two_kept words.now) seq a.now.members b.now.members }
+{
     let mut count = 0;
     for &member in a.members() {
         if b.has(member) && said_two(words, seq, member) {

@@ -1,4 +1,7 @@
 // What is kept of all that members said: of each member and sequence two words at most.
+ghost use Rattle.std.specs.Prelude.{◌≡◌, option_map, IfOk};
+ghost use Rattle.xl_forks.specs.Kept.{words_seen, with_word as with_one, two_kept, IsKept};
+
 use crate::said::Said;
 use std::alloc::Global;
 use std::collections::BTreeMap;
@@ -14,37 +17,41 @@ pub(crate) struct Words<'a> {
 /// The words of all members by sequence, then by member.
 pub(crate) type WordsByMember<'a> = BTreeMap<(Seq, u32), Words<'a>>;
 
-/// The words of each member among these.
 pub(crate) fn words_of<'a>(
     alloc: Global,
     said: &'a [Said],
-) -> Result<WordsByMember<'a>, OutOfMemory> {
+) -> Result<WordsByMember<'a>, OutOfMemory>
+    ensures { IfOk result (λ words. IsKept words said.now) }
+{
     let mut words: WordsByMember<'a> = BTreeMap::new(alloc);
-    for now in said {
-        let key = (now.seq, now.member.get());
+    for word in said {
+        let key = (word.seq, word.member.get());
         let kept = words.get(&key).copied();
-        words.insert(key, with_word(kept, now))?;
+        words.insert(key, with_word(kept, word))?;
     }
     Ok(words)
 }
 
 /// A member's words on a sequence, and one more.
-fn with_word<'a>(kept: Option<Words<'a>>, now: &'a Said) -> Words<'a> {
+fn with_word<'a>(kept: Option<Words<'a>>, word: &'a Said) -> Words<'a>
+    ensures { words_seen result ≡ with_one (option_map words_seen kept) word.now }
+{
     match kept {
         None => Words {
-            first: now,
+            first: word,
             other: None,
         },
-        Some(words) if words.other.is_none() && words.first.id != now.id => Words {
+        Some(words) => Words {
             first: words.first,
-            other: Some(now),
+            other: words.other.or((word.id != words.first.id).then_some(word)),
         },
-        Some(words) => words,
     }
 }
 
 /// Whether the member said two ledgers of the sequence.
-pub(crate) fn said_two(words: &WordsByMember<'_>, seq: Seq, member: NodeNo) -> bool {
+pub(crate) fn said_two(words: &WordsByMember<'_>, seq: Seq, member: NodeNo) -> bool
+    ensures { result ≡ two_kept words.now seq member }
+{
     match words.get(&(seq, member.get())) {
         Some(words) => words.other.is_some(),
         None => false,
