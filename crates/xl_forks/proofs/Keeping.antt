@@ -29,10 +29,6 @@ none_passes {X} p r (x ∷ xs) e =
       | false ↦ λ h. none_passes p r xs h
     ] e
 
-kept : Said → Option Said → Kept
-unfolding kept
-kept x o = record { first = x; other = o }
-
 abbrev kept_from : Option Said → (LedgerId → Option Said) → Option Kept
 kept_from o f = option_map (λ x. record { first = x; other = f x.id }) o
 
@@ -50,7 +46,7 @@ step : (b : Bool) (o : Option Said) (f g : LedgerId → Option Said) (x : Said) 
     kept_from (option_or o (cond b (Some x) None)) g ≡ cond b (Some (with_word (kept_from o f) x)) (kept_from o f)
 step true None f g x more none =
     let other : g x.id ≡ None = more x.id ∙ ap (λ y. option_or y (cond (not (same_id x.id x.id)) (Some x) None)) (none refl x.id)
-        ∙ ap (λ c. cond (not c) (Some x) None) (same_id_itself x.id) in
+    ∙ ap (λ c. cond (not c) (Some x) None) (same_id_itself x.id) in
     ap (λ y. kept_from (Some x) (λ _. y)) other
 step true (Some y) f g x more none =
     let other : g y.id ≡ option_or (f y.id) (cond (same_id x.id y.id) None (Some x)) = more y.id ∙ ap (option_or (f y.id)) (if_other (same_id x.id y.id) x) in

@@ -16,12 +16,10 @@ use Rattle.xl_forks.specs.declared.said.Said.{Said}
 use Rattle.xl_forks.proofs.Naming.{found, mapped}
 use Rattle.xl_forks.proofs.Ranges.{filter_map_is}
 
-pair : Said → Said → Equivocation
-unfolding pair
+abbrev pair : Said → Said → Equivocation
 pair x y = record { first = x; other = y }
 
 pub are_two : EquivocationsAreTwo
-unfolding pair
 are_two said s m e h =
     option_and_then_some (λ x. option_map (pair x) (first_other said s m x.id)) (first_said said s m) e h (λ x at_first rest.
     let y = mapped (pair x) (first_other said s m x.id) e rest in
@@ -57,7 +55,7 @@ another said s m e x two =
     elim (cases_Bool (same_id e.first.id x.id)) [
       | inl same ↦
           let other : same_id e.other.id x.id ≡ false = false_from_ne_true (same_id e.other.id x.id)
-              (λ also. two.differ (same_id-true e.first.id x.id same ∙ sym (same_id-true e.other.id x.id also))) in
+          (λ also. two.differ (same_id-true e.first.id x.id same ∙ sym (same_id-true e.other.id x.id also))) in
           finds (λ z. is_of s m z && not (same_id z.id x.id)) said e.other two.has_other
           (and_from (is_of s m e.other) (not (same_id e.other.id x.id)) two.other (not_from_false (same_id e.other.id x.id) other))
       | inr differs ↦
@@ -66,7 +64,6 @@ another said s m e x two =
     ]
 
 pub two_are : TwoAreEquivocations
-unfolding pair
 two_are said s m e two =
     let x = finds (is_of s m) said e.first two.has_first two.first in
     let y = another said s m e x.0 two in
@@ -102,13 +99,11 @@ any_none p none [] = refl
 any_none p none (x ∷ xs) = or_from (p x) (list_any p xs) (none x) (any_none p none xs)
 
 module _ (said : List Said) (s m : ℕ) where
-  test : Equivocation → Bool
-  unfolding test
+  abbrev test : Equivocation → Bool
   test e = is_of s m e.first
 
   -- of another sequence or member it is not
   hit : (t k : ℕ) → list_any test (option_to_list (equivocation_of said t k)) ≡ (said_two said t k && (t == s && k == m))
-  unfolding test
   hit t k =
       elim (equivocation_of said t k) as (λ o. equivocation_of said t k ≡ o → list_any test (option_to_list o) ≡ (is_some o && (t == s && k == m))) [
         | None ↦ λ _. refl
@@ -147,7 +142,6 @@ module _ (said : List Said) (s m : ℕ) where
       ∙ its_row low high
 
   there : s < 2 ^ 32 → 1 ≤ m → m ≤ 64 → said_two said s m ≡ list_any (λ e. is_of s m e.first) (equivocations_in said)
-  unfolding test
   there within low high = sym (below_one (2 ^ 32) within low high)
 
 pub each_is_among : EachIsAmong

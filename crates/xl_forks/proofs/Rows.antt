@@ -36,9 +36,9 @@ before_from e k h =
 -- a key before another is not that
 apart : (s m : ℕ) (k : ℕ × ℕ) → Before s m k → is_at (by_both (s, m)) k ≡ false
 apart s m k before = at_parts s m k ∙ elim before [
-      | inl less ↦ and_left (s == k.0) (m == k.1) (ne_eqb s k.0 (λ e. omega arith))
-      | inr same ↦ and_right (s == k.0) (m == k.1) (ne_eqb m k.1 (λ e. omega (arith, same.1)))
-    ]
+  | inl less ↦ and_left (s == k.0) (m == k.1) (ne_eqb s k.0 (λ e. omega arith))
+  | inr same ↦ and_right (s == k.0) (m == k.1) (ne_eqb m k.1 (λ e. omega (arith, same.1)))
+]
 
 -- a key that is before another, or is it, is before all that come after that
 onward : (s m : ℕ) (e k : ℕ × ℕ) → Before s m e ⊎ ((s ≡ e.0) × (m ≡ e.1)) → Before e.0 e.1 k → Before s m k

@@ -13,10 +13,6 @@ use Rattle.std.proofs.lemmas.List.Sorted.{All-permutation, list_any-IsPermutatio
 use Rattle.xl_forks.specs.Kept.{AreRising, AreSorted}
 use Rattle.xl_forks.specs.declared.reported.Reported.{Reported}
 
-seq_of : Bor Reported → ℕ
-unfolding seq_of
-seq_of b = b.now.seq
-
 rises : (xs : List (Bor Reported)) → IsNonDecreasingBy (λ b. b.now.seq) xs → AreRising (map deref xs)
 rises [] up = tt
 rises (b ∷ bs) up = (
@@ -70,11 +66,11 @@ kept_order old new moved stable s =
           let here : x.0.now.seq ≡ s = eqb-true x.0.now.seq s x.1 in
           let alike : (y : Bor Reported) → (y.now.seq == s) ≡ ties (λ (a b : Bor Reported). is_lt (nat_cmp a.now.seq b.now.seq)) x.0 y = λ y. ap (λ n. y.now.seq == n) (sym here) ∙ sym (tied x.0.now.seq y.now.seq) in
           filter_agree (λ b. b.now.seq == s) (ties (λ a b. is_lt (nat_cmp a.now.seq b.now.seq)) x.0) alike new
-              ∙ stable x.0
-              ∙ sym (filter_agree (λ b. b.now.seq == s) (ties (λ a b. is_lt (nat_cmp a.now.seq b.now.seq)) x.0) alike old)
+          ∙ stable x.0
+          ∙ sym (filter_agree (λ b. b.now.seq == s) (ties (λ a b. is_lt (nat_cmp a.now.seq b.now.seq)) x.0) alike old)
       | inr none ↦
           none_left (λ b. b.now.seq == s) new (list_any-IsPermutation (λ b. b.now.seq == s) old new moved ∙ none)
-              ∙ sym (none_left (λ b. b.now.seq == s) old none)
+          ∙ sym (none_left (λ b. b.now.seq == s) old none)
     ]
 
 pub sorted_by_seq : (reported : List Reported) (old new : List (Bor Reported)) → map deref old ≡ reported → All (λ (b : Bor Reported). b.now.seq < 2 ^ 32) old → IsPermutation old new →

@@ -32,8 +32,7 @@ in_front n (q ∷ qs) all rise =
     ] refl
 
 -- the forks of each report with those of its sequence behind it
-pub walk : (ℕ → ℕ → Bool) → List Reported → List Fork
-unfolding walk
+unfoldable pub walk : (ℕ → ℕ → Bool) → List Reported → List Fork
 walk two [] = []
 walk two (r ∷ rs) = forks_with two r rs ++ walk two rs
 

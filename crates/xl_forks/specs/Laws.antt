@@ -1,5 +1,5 @@
 -- What equivocations and forks say of what was read. Source: this project's own.
-use Rattle.std.specs.Prelude.{◌≡◌, ℕ, ◌≤◌, ◌<◌, ◌^◌, List, Contains, IsTrue, true}
+use Rattle.std.specs.Prelude.{◌≡◌, ℕ, ◌≤◌, ◌<◌, ◌^◌, List, Contains, IsTrue, Some, true}
 use Rattle.std.specs.List.{list_any}
 use Rattle.xl_forks.specs.Equivocations.{equivocation_of, equivocations_in, is_of, said_two}
 use Rattle.xl_forks.specs.declared.equivocation.Equivocation.{Equivocation}

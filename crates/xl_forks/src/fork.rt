@@ -18,9 +18,9 @@ pub struct Fork<'a> {
     pub one: &'a Reported,
     /// It was read after the one.
     pub other: &'a Reported,
-    /// At least so many members of both lists said both ledgers, if the journals are right.
+    /// The least number of members of both lists that said both ledgers, if the journals are right.
     pub least: u32,
-    /// So many members of both lists are shown to have said two ledgers of the sequence.
+    /// How many members of both lists are shown to have said two ledgers of the sequence.
     pub shown: u32,
 }
 
@@ -86,7 +86,7 @@ fn fork_between<'a>(words: &WordsByMember<'_>, one: &'a Reported, other: &'a Rep
     }
 }
 
-/// At least so many members of both lists said both ledgers.
+/// The least number of members of both lists that said both ledgers.
 fn least_shown(a: &List, b: &List) -> u32
     ensures { result ≡ least_shown_of a.now b.now }
 {
