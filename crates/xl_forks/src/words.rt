@@ -1,6 +1,6 @@
 // What is kept of all that members said: of each member and sequence two words at most.
 ghost use Rattle.std.specs.Prelude.{◌≡◌, option_map, IfOk};
-ghost use Rattle.xl_forks.specs.Kept.{words_seen, with_word as with_one, two_kept, IsKept};
+ghost use Rattle.xl_forks.specs.Kept.{words_seen, with_word as with_one, two_kept, AreNumbers, IsKept};
 
 use crate::said::Said;
 use std::alloc::Global;
@@ -25,16 +25,23 @@ pub(crate) fn words_of<'a>(
 {
     let mut words: WordsByMember<'a> = BTreeMap::new(alloc);
     for word in said {
-        let key = (word.seq, word.member.get());
+        let key = key_of(*word);
         let kept = words.get(&key).copied();
         words.insert(key, with_word(kept, word))?;
     }
     Ok(words)
 }
 
+fn key_of(word: Said) -> (Seq, u32)
+    ensures value { result ≡ (word.seq, word.member) }
+    ensures numbers { AreNumbers word.seq word.member }
+{
+    (word.seq, word.member.get())
+}
+
 /// A member's words on a sequence, and one more.
 fn with_word<'a>(kept: Option<Words<'a>>, word: &'a Said) -> Words<'a>
-    ensures { words_seen result ≡ with_one (option_map words_seen kept) word.now }
+    ensures { words_seen result ≡ with_one (option_map words_seen kept.entry) word.now }
 {
     match kept {
         None => Words {
