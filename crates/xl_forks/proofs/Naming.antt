@@ -1,12 +1,13 @@
 -- The equivocations of what is kept are those of all that was said.
-use Rattle.std.proofs.Common.{◌≡◌, ℕ, ◌+◌, ◌<◌, ◌≤◌, Bool, true, false, cond, List, [], ◌∷◌, ◌++◌, Option, Some, None, BTreeMap, refl, ap, sym, ◌∙◌, subst, length, get_or, arith}
-use Rattle.std.specs.Prelude.{◌==◌, ◌&&◌, not, find, filter_map, flat_map, is_some, option_map, option_and_then, All, Contains, ◌^◌}
+use Rattle.std.proofs.Common.{◌≡◌, ℕ, ◌+◌, ◌<◌, ◌≤◌, Bool, true, false, cond, List, [], ◌∷◌, ◌++◌, Option, Some, None, BTreeMap, refl, ap, sym, ◌∙◌, subst, length, get_or, arith, Bor}
+use Rattle.std.specs.Prelude.{◌==◌, ◌&&◌, not, find, filter_map, flat_map, is_some, map, option_map, option_and_then, option_to_list, All, Contains, ◌^◌}
 use Rattle.std.specs.BTreeMap.{get, IsOrdered}
-use Rattle.std.specs.List.{AllByRecursion}
+use Rattle.std.specs.List.{cons_option}
+use Rattle.std.specs.Map.Iter.{deref_pair}
 use Rattle.std.proofs.Math.Path.{fun_ext}
 use Rattle.std.proofs.lemmas.Bool.{and_parts, eqb-true}
 use Rattle.std.proofs.lemmas.Option.{none-some, same_Some}
-use Rattle.std.proofs.lemmas.List.Elements.{All-weaker, All-contains, recursion_from_All, Contains-append_right}
+use Rattle.std.proofs.lemmas.List.Elements.{All-weaker, All-contains, recursion_from_All, Contains-append_right, filter_map-append}
 use Rattle.xl_lists.specs.Lists.{all_numbers}
 use Rattle.xl_forks.specs.Equivocations.{all_seqs, equivocation_of, equivocations_in, first_other, first_said, is_of, said_two}
 use Rattle.xl_forks.specs.Kept.{by_both, equivocation_kept, kept_at, kept_of, two_kept, words_seen, AreNumbers, IsKept, Kept}
@@ -45,6 +46,23 @@ named_from (Some x) f = refl
 
 named : (said : List Said) (s m : ℕ) → option_and_then equivocation_kept (kept_of said s m) ≡ equivocation_of said s m
 named said s m = named_from (first_said said s m) (λ x. first_other said s m x.id)
+
+-- those of the words that were looked at, and of one more
+pub next_named : {X Y : Type 0} (f : X → Option Y) (xs : List X) (x : X) (before after : List Y) → before ≡ filter_map f xs → after ≡ before ++ option_to_list (f x) → after ≡ filter_map f (xs ++ x ∷ [])
+next_named f xs x before after so_far more =
+    more ∙ ap (λ ys. ys ++ option_to_list (f x)) so_far ∙ sym (filter_map-append f xs (x ∷ []) ∙ ap (λ ys. filter_map f xs ++ ys) (one (f x)))
+  where
+    one : {Y : Type 0} (o : Option Y) → cons_option o [] ≡ option_to_list o
+    one None = refl
+    one (Some y) = refl
+
+-- a walk over a map is one over its entries
+pub over_entries : {K X Y : Type 0} (f : X → Option Y) (xs : List (Bor K × Bor X)) (es : List (K × X)) → map deref_pair xs ≡ es → filter_map (λ p. f p.1.now) xs ≡ filter_map (λ e. f e.1) es
+over_entries f xs es are = along f xs ∙ ap (filter_map (λ e. f e.1)) are
+  where
+    along : {K X Y : Type 0} (f : X → Option Y) (xs : List (Bor K × Bor X)) → filter_map (λ p. f p.1.now) xs ≡ filter_map (λ e. f e.1) (map deref_pair xs)
+    along f [] = refl
+    along f (x ∷ xs) = ap (cons_option (f x.1.now)) (along f xs)
 
 module _ (words : BTreeMap (ℕ × ℕ) Words) (said : List Said) (kept : IsKept words said) where
   kept_named : (s m : ℕ) → option_and_then equivocation_kept (kept_at words s m) ≡ equivocation_of said s m

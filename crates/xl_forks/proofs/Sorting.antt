@@ -73,14 +73,13 @@ kept_order old new moved stable s =
           ∙ sym (none_left (λ b. b.now.seq == s) old none)
     ]
 
-pub sorted_by_seq : (reported : List Reported) (old new : List (Bor Reported)) → map deref old ≡ reported → All (λ (b : Bor Reported). b.now.seq < 2 ^ 32) old → IsPermutation old new →
+pub sorted_by_seq : (reported : List Reported) (old new : List (Bor Reported)) → map deref old ≡ reported → IsPermutation old new →
     IsNonDecreasingBy (λ b. b.now.seq) new → IsStableByKey (λ b. b.now.seq) nat_cmp old new → AreSorted reported (map deref new)
-sorted_by_seq reported old new are numbers moved up stable = record {
+sorted_by_seq reported old new are moved up stable = record {
   rising = rises new up;
   same = λ s.
       filter_of_map deref (λ r. r.seq == s) new
       ∙ ap (map deref) (kept_order old new moved stable s)
       ∙ sym (filter_of_map deref (λ r. r.seq == s) old)
       ∙ ap (filter (λ r. r.seq == s)) are;
-  numbers = All-map (λ r. r.seq < 2 ^ 32) deref new (All-permutation (λ b. b.now.seq < 2 ^ 32) old new moved numbers);
 }

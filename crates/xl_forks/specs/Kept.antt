@@ -70,7 +70,6 @@ AreRising (r ∷ rs) = AllByRecursion (λ q. r.seq ≤ q.seq) rs × AreRising rs
 pub record AreSorted (reported sorted : List Reported) : Type 0 where
   pub rising : AreRising sorted
   pub same : (s : ℕ) → filter (λ r. r.seq == s) sorted ≡ filter (λ r. r.seq == s) reported
-  pub numbers : All (λ r. r.seq < 2 ^ 32) sorted
 
 -- the forks of a report with those behind it of which the sequence is its own
 abbrev pub forks_with : (ℕ → ℕ → Bool) → Reported → List Reported → List Fork

@@ -1,11 +1,11 @@
 // Who said two ledgers of one sequence.
-ghost use Rattle.std.specs.Prelude.{◌≡◌, filter_map, All, Some, IfOk};
+ghost use Rattle.std.specs.Prelude.{◌≡◌, ◌++◌, filter_map, option_to_list, All, Some, IfOk, OnOk};
 ghost use Rattle.std.specs.BTreeMap.{get, IsOrdered};
 ghost use Rattle.xl_forks.specs.Equivocations.{equivocations_in};
 ghost use Rattle.xl_forks.specs.Kept.{by_both, equivocation_kept, words_seen};
 
 use crate::said::Said;
-use crate::words::{WordsByMember, words_of};
+use crate::words::{Words, WordsByMember, words_of};
 use std::alloc::Global;
 use xl_base::OutOfMemory;
 
@@ -36,12 +36,21 @@ fn equivocations_among(
 {
     let mut found = Vec::new(alloc);
     for (_, spoken) in words.iter() {
-        if let Some(other) = spoken.other {
-            found.push(Equivocation {
-                first: *spoken.first,
-                other: *other,
-            })?;
-        }
+        push_equivocation(&mut found, spoken)?;
     }
     Ok(found)
+}
+
+/// The equivocation that these words are, if the member said two ledgers.
+fn push_equivocation(found: &mut Vec<Equivocation>, spoken: &Words<'_>) -> Result<(), OutOfMemory>
+    ensures { OnOk result (found.new.items
+        ≡ found.old.items ++ option_to_list (equivocation_kept (words_seen spoken.now))) }
+{
+    if let Some(other) = spoken.other {
+        found.push(Equivocation {
+            first: *spoken.first,
+            other: *other,
+        })?;
+    }
+    Ok(())
 }

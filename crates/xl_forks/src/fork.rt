@@ -1,8 +1,8 @@
 // Which reports differ.
-ghost use Rattle.std.specs.Prelude.{◌≡◌, ◌++◌, map, IfOk, OnOk};
+ghost use Rattle.std.specs.Prelude.{◌≡◌, ◌<◌, ◌^◌, ◌++◌, map, option_to_list, IfOk, OnOk};
 ghost use Rattle.std.specs.Map.Iter.{deref};
 ghost use Rattle.xl_lists.specs.Quorums.{least_shown as least_shown_of};
-ghost use Rattle.xl_forks.specs.Forks.{fork_between as fork_made, fork_seen, forks_in, shown_by};
+ghost use Rattle.xl_forks.specs.Forks.{fork_of, fork_seen, forks_in, shown_by};
 ghost use Rattle.xl_forks.specs.Kept.{forks_with, two_kept, AreSorted};
 
 use crate::reported::Reported;
@@ -61,29 +61,39 @@ fn push_forks_of<'a>(
     one: &'a Reported,
     behind: &[&'a Reported],
 ) -> Result<(), OutOfMemory>
-    ensures { OnOk result (map fork_seen found.new.items
+    ensures forks { OnOk result (map fork_seen found.new.items
         ≡ map fork_seen found.old.items ++ forks_with (two_kept words.now) one.now (map deref behind.now)) }
+    ensures number { one.now.seq < 2 ^ 32 }
 {
+    let seq = one.seq;
     for other in behind {
-        if other.seq != one.seq {
+        if other.seq != seq {
             return Ok(());
         }
-        if other.id != one.id {
-            found.push(fork_between(words, one, other))?;
-        }
+        push_fork(found, words, one, other)?;
     }
     Ok(())
 }
 
-fn fork_between<'a>(words: &WordsByMember<'_>, one: &'a Reported, other: &'a Reported) -> Fork<'a>
-    ensures { fork_seen result ≡ fork_made (two_kept words.now) one.now other.now }
+/// The fork of two reports of one sequence, if they name different ledgers.
+fn push_fork<'a>(
+    found: &mut Vec<Fork<'a>>,
+    words: &WordsByMember<'_>,
+    one: &'a Reported,
+    other: &'a Reported,
+) -> Result<(), OutOfMemory>
+    ensures { OnOk result (map fork_seen found.new.items
+        ≡ map fork_seen found.old.items ++ option_to_list (fork_of (two_kept words.now) one.now other.now)) }
 {
-    Fork {
-        one,
-        other,
-        least: least_shown(&one.list, &other.list),
-        shown: shown(words, one.seq, &one.list, &other.list),
+    if one.id != other.id {
+        found.push(Fork {
+            one,
+            other,
+            least: least_shown(&one.list, &other.list),
+            shown: shown(words, one.seq, &one.list, &other.list),
+        })?;
     }
+    Ok(())
 }
 
 /// The least number of members of both lists that said both ledgers.
