@@ -1,6 +1,6 @@
 -- Reports after a stable sort by their sequences.
-use Rattle.std.proofs.Common.{◌≡◌, ℕ, zero, suc, ◌+◌, ◌<◌, ◌≤◌, Bool, true, false, cond, List, [], ◌∷◌, Bor, map, refl, ap, sym, ◌∙◌, arith, inl, inr, length, get_or}
-use Rattle.std.specs.Prelude.{◌==◌, ◌&&◌, ◌||◌, not, filter, All, ◌^◌, nat_lt}
+use Rattle.std.proofs.Common.{◌≡◌, ℕ, zero, suc, ◌+◌, ◌<◌, ◌≤◌, Bool, true, false, cond, List, [], ◌∷◌, Bor, map, refl, ap, sym, ◌∙◌, arith, inl, inr, length, get_or, take, ◌++◌}
+use Rattle.std.specs.Prelude.{◌==◌, ◌&&◌, ◌||◌, not, filter, nat_lt}
 use Rattle.std.specs.List.{AllByRecursion, list_any}
 use Rattle.std.specs.List.Sorted.{ties, IsNonDecreasingBy, IsPermutation, IsStableByKey}
 use Rattle.std.specs.Map.Iter.{deref}
@@ -8,8 +8,9 @@ use Rattle.std.specs.Ordering.{nat_cmp, is_lt}
 use Rattle.std.specs.declared.cmp.Ordering.TheVariants.{Less, Equal, Greater}
 use Rattle.std.proofs.lemmas.Bool.{cases_Bool, eqb-true}
 use Rattle.std.proofs.lemmas.Bool.Decides.{nat_tests}
+use Rattle.std.proofs.lemmas.List.{take_more, map-append}
 use Rattle.std.proofs.lemmas.List.Elements.{All-map, filter_agree, recursion_from_All}
-use Rattle.std.proofs.lemmas.List.Sorted.{All-permutation, list_any-IsPermutation}
+use Rattle.std.proofs.lemmas.List.Sorted.{list_any-IsPermutation}
 use Rattle.xl_forks.specs.Kept.{AreRising, AreSorted}
 use Rattle.xl_forks.specs.declared.reported.Reported.{Reported}
 
@@ -69,7 +70,7 @@ kept_order old new moved stable s =
           ∙ stable x.0
           ∙ sym (filter_agree (λ b. b.now.seq == s) (ties (λ a b. is_lt (nat_cmp a.now.seq b.now.seq)) x.0) alike old)
       | inr none ↦
-          none_left (λ b. b.now.seq == s) new (list_any-IsPermutation (λ b. b.now.seq == s) old new moved ∙ none)
+          none_left (λ b. b.now.seq == s) new (sym (list_any-IsPermutation (λ b. b.now.seq == s) old new moved) ∙ none)
           ∙ sym (none_left (λ b. b.now.seq == s) old none)
     ]
 
@@ -83,3 +84,10 @@ sorted_by_seq reported old new are moved up stable = record {
       ∙ sym (filter_of_map deref (λ r. r.seq == s) old)
       ∙ ap (filter (λ r. r.seq == s)) are;
 }
+
+-- the reports that were looked at, and one more
+pub more_are : (reported : List Reported) (i : ℕ) (items new : List (Bor Reported)) (b : Bor Reported) → i < length reported → b.now ≡ get_or reported i b.now →
+    map deref items ≡ take i reported → new ≡ items ++ b ∷ [] → map deref new ≡ take (i + 1) reported
+more_are reported i items new b within is so_far more =
+    ap (map deref) more ∙ map-append deref items (b ∷ []) ∙ ap (λ rs. rs ++ b.now ∷ []) so_far
+    ∙ sym (take_more reported i b.now within ∙ ap (λ y. take i reported ++ y ∷ []) (sym is))
