@@ -1,5 +1,5 @@
 -- What is kept of all words, one word after the other.
-use Rattle.std.proofs.Common.{◌≡◌, ℕ, ◌+◌, ◌<◌, ◌≤◌, Bool, true, false, cond, List, [], ◌∷◌, ◌++◌, Option, Some, None, BTreeMap, refl, ap, sym, ◌∙◌, subst, take, length, get_or, arith, inl, inr}
+use Rattle.std.proofs.Common.{◌≡◌, ℕ, ◌+◌, ◌<◌, Bool, true, false, cond, List, [], ◌∷◌, ◌++◌, Option, Some, None, BTreeMap, refl, ap, sym, ◌∙◌, subst, take, length, get_or, arith, inl, inr}
 use Rattle.std.specs.Prelude.{◌==◌, ◌&&◌, not, find, nat_lt, option_map}
 use Rattle.std.specs.BTreeMap.{get, is_at, Updates, IsEmpty}
 use Rattle.std.specs.Map.{lookup}

@@ -1,5 +1,5 @@
 -- Why the laws of equivocations hold.
-use Rattle.std.proofs.Common.{◌≡◌, ℕ, zero, suc, ◌+◌, ◌<◌, ◌≤◌, Bool, true, false, cond, List, [], ◌∷◌, ◌++◌, Option, Some, None, refl, ap, sym, ◌∙◌, subst, arith, inl, inr}
+use Rattle.std.proofs.Common.{◌≡◌, ℕ, zero, suc, ◌+◌, ◌<◌, ◌≤◌, Bool, true, false, cond, List, [], ◌∷◌, Some, None, refl, ap, sym, ◌∙◌, subst, arith, inl, inr}
 use Rattle.std.specs.Prelude.{◌==◌, ◌&&◌, ◌||◌, not, find, filter_map, flat_map, is_some, option_map, option_and_then, option_to_list, All, Contains, ◌^◌}
 use Rattle.std.specs.List.{list_any, range_with_len}
 use Rattle.std.proofs.lemmas.Bool.{and_parts, and_left, and_right, and_from, both_ways, cases_Bool, cases_eq, eq-eqb, eqb-true, false_from_ne_true, ne_eqb, not-true, not_from_false, or_from}
@@ -9,7 +9,7 @@ use Rattle.std.proofs.lemmas.List.Folds.{list_any-append}
 use Rattle.xl_base.specs.Ids.{same_id}
 use Rattle.xl_lists.specs.Lists.{all_numbers}
 use Rattle.xl_lists.proofs.Agreement.{same_id-true, same_id_itself}
-use Rattle.xl_forks.specs.Equivocations.{all_seqs, seqs_below, equivocation_of, equivocations_in, first_other, first_said, is_of, said_two}
+use Rattle.xl_forks.specs.Equivocations.{seqs_below, equivocation_of, equivocations_in, first_other, first_said, is_of, said_two}
 use Rattle.xl_forks.specs.Laws.{AreTwo, EachIsAmong, EquivocationsAreTwo, TwoAreEquivocations}
 use Rattle.xl_forks.specs.declared.equivocation.Equivocation.{Equivocation}
 use Rattle.xl_forks.specs.declared.said.Said.{Said}

@@ -1,6 +1,6 @@
 -- The equivocations of what is kept are those of all that was said.
-use Rattle.std.proofs.Common.{◌≡◌, ℕ, ◌+◌, ◌<◌, ◌≤◌, Bool, true, false, cond, List, [], ◌∷◌, ◌++◌, Option, Some, None, BTreeMap, refl, ap, sym, ◌∙◌, subst, length, get_or, arith, Bor}
-use Rattle.std.specs.Prelude.{◌==◌, ◌&&◌, not, find, filter_map, flat_map, is_some, map, option_map, option_and_then, option_to_list, All, Contains, ◌^◌}
+use Rattle.std.proofs.Common.{◌≡◌, ℕ, ◌<◌, ◌≤◌, Bool, true, false, cond, List, [], ◌∷◌, ◌++◌, Option, Some, None, BTreeMap, refl, ap, sym, ◌∙◌, subst, arith, Bor}
+use Rattle.std.specs.Prelude.{◌==◌, find, filter_map, is_some, map, option_map, option_and_then, option_to_list, All, Contains, ◌^◌}
 use Rattle.std.specs.BTreeMap.{get, IsOrdered}
 use Rattle.std.specs.List.{cons_option}
 use Rattle.std.specs.Map.Iter.{deref_pair}
@@ -10,8 +10,7 @@ use Rattle.std.proofs.lemmas.Option.{none-some, same_Some}
 use Rattle.std.proofs.lemmas.List.Elements.{All-weaker, All-contains, recursion_from_All, Contains-append_right, filter_map-append}
 use Rattle.xl_lists.specs.Lists.{all_numbers}
 use Rattle.xl_forks.specs.Equivocations.{all_seqs, equivocation_of, equivocations_in, first_other, first_said, is_of, said_two}
-use Rattle.xl_forks.specs.Kept.{by_both, equivocation_kept, kept_at, kept_of, two_kept, words_seen, AreNumbers, IsKept, Kept}
-use Rattle.xl_forks.specs.declared.equivocation.Equivocation.{Equivocation}
+use Rattle.xl_forks.specs.Kept.{by_both, equivocation_kept, kept_at, kept_of, two_kept, words_seen, AreNumbers, IsKept}
 use Rattle.xl_forks.specs.declared.said.Said.{Said}
 use Rattle.xl_forks.specs.declared.words.Words.{Words}
 use Rattle.xl_forks.proofs.Ranges.{filter_map_alike, flat_map_alike}

@@ -1,17 +1,17 @@
 -- The values of rows whose keys rise by sequence, then by member, are what all sequences and members give.
-use Rattle.std.proofs.Common.{◌≡◌, ℕ, zero, suc, ◌+◌, ◌<◌, ◌≤◌, Bool, true, false, cond, List, [], ◌∷◌, ◌++◌, Option, Some, None, refl, ap, sym, ◌∙◌, arith, inl, inr}
-use Rattle.std.specs.Prelude.{filter_map, flat_map, option_to_list, option_and_then, ◌^◌, ◌==◌, ◌&&◌, ◌⊎◌, nat_lt}
+use Rattle.std.proofs.Common.{◌≡◌, ℕ, ◌<◌, ◌≤◌, Bool, true, false, cond, List, [], ◌∷◌, ◌++◌, Option, Some, None, refl, ap, sym, ◌∙◌, arith, inl, inr}
+use Rattle.std.specs.Prelude.{filter_map, flat_map, option_to_list, option_and_then, ◌==◌, ◌&&◌, ◌⊎◌, nat_lt}
 use Rattle.std.specs.BTreeMap.{is_at}
-use Rattle.std.specs.List.{range_with_len, cons_option, AllByRecursion}
+use Rattle.std.specs.List.{range_with_len, AllByRecursion}
 use Rattle.std.specs.List.Sorted.{IsStrictlySortedBy}
 use Rattle.std.specs.Map.{lookup, keys_of}
-use Rattle.std.specs.Ordering.{nat_cmp, ordering_then}
+use Rattle.std.specs.Ordering.{ordering_then}
 use Rattle.std.specs.declared.cmp.Ordering.TheVariants.{Less, Equal, Greater}
-use Rattle.std.proofs.lemmas.Bool.{cases_eq, eq-eqb, ne_eqb, ltb-true, eqb-true, and_left, and_right, and_from, cond-true, cond-false}
+use Rattle.std.proofs.lemmas.Bool.{eq-eqb, ne_eqb, ltb-true, eqb-true, and_left, and_right, and_from, cond-true, cond-false}
 use Rattle.std.proofs.lemmas.List.{append-nil}
 use Rattle.xl_lists.specs.Lists.{all_numbers}
 use Rattle.xl_forks.specs.Equivocations.{seqs_below}
-use Rattle.xl_forks.specs.Kept.{by_both, AreNumbers}
+use Rattle.xl_forks.specs.Kept.{by_both}
 use Rattle.xl_forks.proofs.Keeping.{at_parts}
 use Rattle.xl_forks.proofs.Ranges.{cons_is, filter_map_is, filter_map_none, filter_map_alike, flat_map_none, more_in_range}
 

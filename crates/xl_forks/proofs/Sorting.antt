@@ -1,7 +1,7 @@
 -- Reports after a stable sort by their sequences.
 use Rattle.std.proofs.Common.{◌≡◌, ℕ, zero, suc, ◌+◌, ◌<◌, ◌≤◌, Bool, true, false, cond, List, [], ◌∷◌, Bor, map, refl, ap, sym, ◌∙◌, arith, inl, inr, length, get_or, take, ◌++◌}
 use Rattle.std.specs.Prelude.{◌==◌, ◌&&◌, ◌||◌, not, filter, nat_lt}
-use Rattle.std.specs.List.{AllByRecursion, list_any}
+use Rattle.std.specs.List.{list_any}
 use Rattle.std.specs.List.Sorted.{ties, IsNonDecreasingBy, IsPermutation, IsStableByKey}
 use Rattle.std.specs.Map.Iter.{deref}
 use Rattle.std.specs.Ordering.{nat_cmp, is_lt}

@@ -1,5 +1,5 @@
 -- How what was said and reported is kept. Source: what the code of this crate keeps.
-use Rattle.std.specs.Prelude.{◌≡◌, ℕ, ◌^◌, ◌<◌, ◌≤◌, ◌==◌, ◌+◌, Bool, List, [], ◌∷◌, ◌++◌, All, filter, filter_map, take_while, is_some, option_map, option_and_then, option_copied, Some, None, if◌then◌else◌}
+use Rattle.std.specs.Prelude.{◌≡◌, ℕ, ◌^◌, ◌<◌, ◌≤◌, ◌==◌, Bool, List, [], ◌∷◌, All, filter, filter_map, take_while, is_some, option_map, option_and_then, option_copied, Some, None, if◌then◌else◌}
 use Rattle.std.specs.declared.option.Option.{Option}
 use Rattle.std.specs.BTreeMap.{BTreeMap, get}
 use Rattle.std.specs.List.{AllByRecursion}
@@ -7,7 +7,6 @@ use Rattle.std.specs.Option.{option_or}
 use Rattle.std.specs.Ordering.{nat_cmp, ordering_then}
 use Rattle.std.specs.declared.cmp.Ordering.{Ordering}
 use Rattle.xl_base.specs.Ids.{same_id}
-use Rattle.xl_base.specs.declared.ids.LedgerId.{LedgerId}
 use Rattle.xl_forks.specs.Equivocations.{first_said, first_other}
 use Rattle.xl_forks.specs.Forks.{Fork, fork_of}
 use Rattle.xl_forks.specs.declared.equivocation.Equivocation.{Equivocation}

@@ -9,6 +9,11 @@ const X: LedgerId = LedgerId([0x11; 32]);
 
 const Y: LedgerId = LedgerId([0x22; 32]);
 
+/// The lists of nodes 1 and 7.
+const ONE: [u32; 5] = [1, 2, 3, 4, 5];
+
+const SEVEN: [u32; 5] = [3, 4, 5, 6, 7];
+
 fn said(member: u32, journal: u32, entry: u64, id: LedgerId) -> Result<Said, Fail> {
     Ok(Said {
         seq: 1,
@@ -19,17 +24,17 @@ fn said(member: u32, journal: u32, entry: u64, id: LedgerId) -> Result<Said, Fai
     })
 }
 
-fn reported(journal: u32, id: LedgerId, first: u32) -> Result<Reported, Fail> {
+fn reported(journal: u32, id: LedgerId, members: [u32; 5]) -> Result<Reported, Fail> {
     Ok(Reported {
         seq: 1,
         journal,
         entry: 4,
         id,
-        list: List::new(&[first, first + 1, first + 2, first + 3, first + 4], 4)?,
+        list: List::new(&members, 4)?,
     })
 }
 
-/// The journals of nodes 1 and 7, whose lists are 1 to 5 and 3 to 7. Member 3 tells the one x and the other y.
+/// Member 3, which stands on both lists, tells node 1 x and node 7 y.
 #[test]
 fn a_lie_in_the_overlap_is_shown(rt: HostRuntime) -> Result<(), Fail> {
     let words = [
@@ -42,7 +47,7 @@ fn a_lie_in_the_overlap_is_shown(rt: HostRuntime) -> Result<(), Fail> {
         said(5, 2, 3, Y)?,
         said(3, 2, 4, Y)?,
     ];
-    let reports = [reported(1, X, 1)?, reported(2, Y, 3)?];
+    let reports = [reported(1, X, ONE)?, reported(2, Y, SEVEN)?];
     let named = equivocations(rt.alloc(), &words)?;
     let only = Equivocation {
         first: words[3],
@@ -62,7 +67,7 @@ fn a_lie_in_the_overlap_is_shown(rt: HostRuntime) -> Result<(), Fail> {
 #[test]
 fn one_ledger_said_twice_is_no_lie(rt: HostRuntime) -> Result<(), Fail> {
     let words = [said(3, 1, 4, X)?, said(3, 2, 3, X)?];
-    let reports = [reported(1, X, 1)?, reported(2, X, 3)?];
+    let reports = [reported(1, X, ONE)?, reported(2, X, SEVEN)?];
     assert_eq!(rt; equivocations(rt.alloc(), &words)?.len(), 0);
     assert_eq!(rt; forks(rt.alloc(), &words, &reports)?.len(), 0);
     Ok(())

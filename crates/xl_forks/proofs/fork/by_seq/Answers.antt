@@ -1,6 +1,5 @@
-use Rattle.std.proofs.Common.{◌≡◌, ◌∙◌, Bor, map}
+use Rattle.std.proofs.Common.{◌≡◌, ◌∙◌, Bor}
 use Rattle.std.proofs.Common.{rules}
-use Rattle.std.specs.Map.Iter.{deref}
 use Rattle.std.proofs.lemmas.List.{take_all}
 use Rattle.std.proofs.lemmas.List.Sorted.{answers_always, IsNonDecreasingBy-from_sort_by_key}
 use Rattle.xl_forks.specs.declared.reported.Reported.{Reported}

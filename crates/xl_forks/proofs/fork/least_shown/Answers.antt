@@ -1,5 +1,5 @@
 use Rattle.std.proofs.Common.{◌≡◌, ℕ, Bool, List, [], ◌∷◌, refl, arith, ap, cond}
-use Rattle.std.specs.Prelude.{◌&&◌, count_by}
+use Rattle.std.specs.Prelude.{◌&&◌}
 use Rattle.std.proofs.lemmas.Bool.{and_right}
 use Rattle.xl_lists.proofs.Counting.{count_by-cons}
 use Rattle.xl_lists.specs.Lists.{is_on}

@@ -1,4 +1,4 @@
-use Rattle.std.specs.Prelude.{◌≡◌, ◌≤◌, ◌&&◌, take, count_by}
+use Rattle.std.specs.Prelude.{◌≡◌, ◌&&◌, take, count_by}
 use Rattle.xl_lists.specs.Lists.{is_on}
 use Rattle.xl_forks.specs.Kept.{two_kept}
 use Rattle.xl_forks.proofs.fork.shown.Given as goal
