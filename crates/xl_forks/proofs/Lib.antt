@@ -5,3 +5,4 @@ pub mod Naming
 pub mod Sorting
 pub mod Walking
 pub mod Lawful
+pub mod Forking

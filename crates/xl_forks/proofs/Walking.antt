@@ -16,7 +16,7 @@ use Rattle.xl_forks.specs.declared.said.Said.{Said}
 use Rattle.xl_forks.proofs.Ranges.{cons_is, flat_map_none, flat_map_alike, more_in_range}
 
 -- the reports of a sequence
-abbrev of_seq : ℕ → List Reported → List Reported
+abbrev pub of_seq : ℕ → List Reported → List Reported
 of_seq s rs = filter (λ r. r.seq == s) rs
 
 none_of : (s n : ℕ) (rs : List Reported) → AllByRecursion (λ q. n ≤ q.seq) rs → s < n → of_seq s rs ≡ []

@@ -14,6 +14,6 @@ mod words;
 
 pub use equivocation::{Equivocation, equivocations};
 pub use fork::{Fork, forks};
-pub use laws::law_of_equivocations;
+pub use laws::{law_of_equivocations, law_of_forks};
 pub use reported::Reported;
 pub use said::Said;
