@@ -1,35 +1,30 @@
 -- The core's part of a timer.
-use Rattle.std.proofs.Common.{◌≡◌, ℕ, Bool, List, [], ◌∷◌, ◌++◌, refl, ap, sym, subst, arith, Option, Some, None, Result, Ok, Err}
-use Rattle.std.specs.Prelude.{option_map, if◌then◌else◌}
-use Rattle.std.proofs.lemmas.Bool.{cond_both}
-use Rattle.xl_base.specs.declared.ids.LedgerId.{LedgerId}
+use Rattle.std.proofs.Common.{◌≡◌, ℕ, Bool, List, [], ◌∷◌, refl, ap, sym, subst, arith, Option, Some, None}
+use Rattle.std.specs.Prelude.{option_map}
 use Rattle.xl_base.specs.declared.ids.TxId.{TxId}
 use Rattle.xl_io.specs.Keepers.{Held, after_save}
-use Rattle.xl_ledger.specs.Headers.{header_id}
 use Rattle.xl_queues.specs.Broadcasts.{pushed_to_all}
 use Rattle.xl_queues.specs.Queues.{Backlog}
 use Rattle.xl_rounds.specs.declared.heartbeat.Said.{Said}
 use Rattle.xl_core.specs.declared.timer_answer.TimerAnswer.{TimerAnswer}
 use Rattle.xl_core.specs.declared.timer_answer.TimerAnswer.TheVariants.{Nothing, Closed, Updated, Switched, NoRoom, Built as BuiltBeat}
-use Rattle.xl_core.specs.declared.timer_answer.Issued.{Issued}
 use Rattle.xl_core.specs.declared.timer_answer.Issued.TheVariants as issued
 use Rattle.xl_core.specs.declared.item.Item.{Item}
-use Rattle.xl_core.specs.declared.item.Item.TheVariants.{Header as HeaderItem, Tx as TxItem}
+use Rattle.xl_core.specs.declared.item.Item.TheVariants.{Tx as TxItem}
 use Rattle.xl_core.specs.declared.refusal.Refusal.{Refusal}
-use Rattle.xl_core.specs.declared.report.OwnValidation.{OwnValidation}
 use Rattle.xl_core.specs.declared.timer_part.Built.{Built}
 use Rattle.xl_core.specs.declared.timer_part.TimerPart.TheVariants as timer_part
 use Rattle.xl_core.specs.Answers.{Beats, Done}
 use Rattle.xl_core.specs.Building.{said_items}
 use Rattle.xl_core.specs.Core.{Core, stepped}
 use Rattle.xl_core.specs.Keeping.{IsAsked}
-use Rattle.xl_core.specs.Node.{Node, Reply, Save, TimerOutcome, Submit, Quiet, timer_reply, timer_outcome, built_reply, asks_of, happens, replying, refusing}
+use Rattle.xl_core.specs.Node.{Node, Reply, Save, TimerOutcome, Submit, Quiet, timer_reply, timer_outcome, asks_of, happens, replying, refusing}
 use Rattle.xl_core.specs.Issuing.Save.{Kept}
-use Rattle.xl_core.specs.Queues.{with_items, with_report}
-use Rattle.xl_core.specs.Replies.{Answers, save_in}
+use Rattle.xl_core.specs.Queues.{with_items}
+use Rattle.xl_core.specs.Replies.{Answers}
 use Rattle.xl_core.specs.Stops.{IsCovered}
 use Rattle.xl_core.proofs.Stopping.{submit_covered}
-use Rattle.xl_core.specs.TimerParts.{outcome_by, concluding_reply, validated_reply, save_as, Concludes, IsQuiet, CountsBeatFault}
+use Rattle.xl_core.specs.TimerParts.{outcome_by, IsQuiet, CountsBeatFault}
 
 -- NOTHING WAS BUILT
 
@@ -62,36 +57,6 @@ quiet_fault (NoRoom limit) n quiet = λ seq id moved_on count e. cc
 quiet_fault (BuiltBeat s i m how) n quiet = absurd quiet
 
 -- A LEDGER WAS BUILT
-
--- how it was validated, as the code tells it
-abbrev pub how_validated : Result (Option OwnValidation) Refusal → Issued
-how_validated (Ok None) = issued.Silent
-how_validated (Ok (Some own)) = if own.validation.full then issued.Full else issued.Partial
-how_validated (Err why) = issued.Refused why
-
--- the save is told alike
-pub same_save : (o : Result (Option OwnValidation) Refusal) → save_in o ≡ save_as (how_validated o)
-same_save (Ok None) = refl
-same_save (Ok (Some own)) = cond_both own.validation.full issued.Full issued.Partial (λ how. Kept ≡ save_as how) (λ _. refl) (λ _. refl)
-same_save (Err why) = refl
-
--- the core once the header, and what was issued, wait
-abbrev pub core_then : Core → Built → Reply → Core
-core_then core b r = record { node = r.node; waiting = with_items core.waiting (said_items b.said ++ HeaderItem b.id ∷ r.items); greetings = core.greetings; untaken = with_report core.untaken r.report; stopped = core.stopped }
-
-told_ending : (core : Core) (b : Built) (n : Node) (o : Result (Option OwnValidation) Refusal) →
-    Answers (stepped core (built_reply (said_items b.said) b.header b.moved_on (validated_reply o n))) (core_then core (record b { id = header_id b.header }) (validated_reply o n)) (Beats (BuiltBeat b.header.seq (header_id b.header) b.moved_on (how_validated o)))
-told_ending core b n (Ok None) = record { core = refl; answer = refl }
-told_ending core b n (Ok (Some own)) = record { core = refl; answer = refl }
-told_ending core b n (Err why) = record { core = refl; answer = refl }
-
-pub conclude_step : (core : Core) (b : Built) (n : Node) (o : Result (Option OwnValidation) Refusal) → b.id ≡ header_id b.header → validated_reply o n ≡ concluding_reply core.node b (save_in o) →
-    Concludes core b (BuiltBeat b.header.seq b.id b.moved_on (how_validated o)) (core_then core b (validated_reply o n))
-conclude_step core b n o id is =
-    subst (λ (s : Save). Answers (stepped core (timer_reply (outcome_by (timer_part.Built b) core.node) s)) (core_then core b (validated_reply o n)) (Beats (BuiltBeat b.header.seq b.id b.moved_on (how_validated o)))) (same_save o)
-    (subst (λ (r : Reply). Answers (stepped core (built_reply (said_items b.said) b.header b.moved_on r)) (core_then core b (validated_reply o n)) (Beats (BuiltBeat b.header.seq b.id b.moved_on (how_validated o)))) is
-    (subst (λ (i : LedgerId). Answers (stepped core (built_reply (said_items b.said) b.header b.moved_on (validated_reply o n))) (core_then core (record b { id = i }) (validated_reply o n)) (Beats (BuiltBeat b.header.seq i b.moved_on (how_validated o)))) (sym id)
-    (told_ending core b n o)))
 
 -- so the timer's step
 pub built_step : (core : Core) (m n : Node) (b : Built) (told : TimerAnswer) (after : Core) (save : Save) → outcome_by (timer_part.Built b) n ≡ timer_outcome m →

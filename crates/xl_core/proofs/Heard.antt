@@ -2,7 +2,6 @@
 use Rattle.std.proofs.Common.{◌≡◌, ◌≢◌, ℕ, zero, suc, ◌<◌, ◌≤◌, subst, Bool, true, false, List, [], ◌∷◌, length, refl, ap, sym, ◌∙◌, arith, Option, Some, None, Result, Ok, Err}
 use Rattle.std.specs.Prelude.{◌==◌, ◌||◌, ◌-◌, not, nat_lt, nat_le, unwrap_or, option_map, IfOk, if◌then◌else◌}
 use Rattle.std.specs.Option.{option_or}
-use Rattle.std.specs.Result.{IsErrAnd}
 use Rattle.std.proofs.lemmas.List.{take_all}
 use Rattle.std.proofs.lemmas.Bool.Decides.{nat_tests}
 use Rattle.std.proofs.lemmas.Bool.{cond_both, cond-true, cond-false, le-leb, lt-ltb, ltb-false, le-ltb, eq-eqb}
@@ -20,7 +19,7 @@ use Rattle.xl_wire.proofs.RawLaws.{length-raw_bytes, spelled_split}
 use Rattle.xl_wire.proofs.BodyLaws.{spelled_read}
 use Rattle.xl_tags.specs.Opening.{refusal_of, is_sealed}
 use Rattle.xl_tags.specs.Sealing.{as_sealed, tag_by}
-use Rattle.xl_tags.proofs.OpeningLaws.{IsRaw-as_sealed, as_sealed_same, opens_alone, sealed_exactly}
+use Rattle.xl_tags.proofs.OpeningLaws.{IsRaw-as_sealed, opens_alone, sealed_exactly}
 use Rattle.xl_tags.specs.Rings.{Ring}
 use Rattle.xl_tags.specs.declared.refusal.TagRefusal.{TagRefusal}
 use Rattle.xl_tags.specs.declared.refusal.TagRefusal.TheVariants.{NotForMe, Stranger, BadTag}
@@ -273,11 +272,6 @@ module _ (ring : Ring) (members bytes : List ℕ) where
   read f r is fits opens body =
       opened f is fits ∙ ap (heard_with None 0 f false) opens ∙ sym (of_body f (body_refusal f.kind f.body)) ∙ ap (read_so f.from) (sym body)
 
--- the exit of a `?`
-pub err_so : {T : Type 0} (r : Result T Refusal) (why : Refusal) → IsErrAnd r (λ x. x ≡ why) → r ≡ Err why
-err_so (Ok said) why is = absurd is
-err_so {T} (Err x) why is = ap (λ (w : Refusal). (let r : Result T Refusal = Err w in r)) is
-
 -- WHAT IS ALWAYS HEARD
 
 pass : (to from on right : Bool) (a b c : TagRefusal) → to ≡ true → from ≡ false → on ≡ true → right ≡ true →
@@ -336,7 +330,3 @@ framed_with Tested ring bytes f s = spelled_frame bytes f s
 framed_with Assumed ring bytes f s =
     subst (λ (b : List ℕ). IsFrame b (as_sealed ring f)) (sym (as_sealed_bytes ring bytes f s))
     (spelled_frame (raw_bytes (as_sealed ring f)) (as_sealed ring f) (record { frame = IsRaw-as_sealed ring f s.frame; spelling = refl }))
-
--- bytes that their sender sealed stay
-pub sealed_already : (ring : Ring) (bytes : List ℕ) (f : RawFrame) → SpellsRaw f bytes → tag_by ring f.from f ≡ Some f.tag → bytes_as_sealed ring bytes ≡ bytes
-sealed_already ring bytes f s right = as_sealed_bytes ring bytes f s ∙ ap raw_bytes (as_sealed_same ring f right) ∙ sym s.spelling

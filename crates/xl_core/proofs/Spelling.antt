@@ -95,9 +95,6 @@ body_fits (bodies.Header header) is = eq-eqb (length header) 118 is
 body_fits (bodies.TxSet ids) is = spelled_lawful (bodies.TxSet ids) is
 body_fits (bodies.Tx id) is = eq-eqb (length id.0) 32 is
 
-pub frame_spelled : (from to : ℕ) (body : Body) → IsFrame (blank_frame from to body) → has_spelling from to body ≡ true
-frame_spelled from to body is = all_of (nat_lt from (2 ^ 32)) (nat_lt to (2 ^ 32)) (fits body) (lt-ltb from (2 ^ 32) is.from) (lt-ltb to (2 ^ 32) is.to) (body_fits body is.body)
-
 -- HOW LONG IT IS
 
 -- no body has more than 8,194

@@ -104,14 +104,6 @@ noted_ran w i e fate a answers unsent = by_place (place_at i w.places) refl answ
         (ap (λ (o : Option Place). w.lists ++ option_to_list (list_noted a.relisted o)) found
         ∙ ap (λ (o : Option InForce). w.lists ++ option_to_list o) is.set)
 
--- where there is no node of the number nothing changes
-pub nothing_ran : (w : World) (i : ℕ) (e : CoreEvent) (fate : Fate) → AnswersAt i e fate w.places None → with_places w (acted_at i e fate w.places) ≡ with_forged w.forged (run w (event_steps w i e fate))
-nothing_ran w i e fate answers = by_place (place_at i w.places) answers ∙ ap (with_forged w.forged) (sym (event_ran w i e fate))
-  where
-    by_place : (o : Option Place) → Answers e fate o None → with_places w (put_acted e fate o w.places) ≡ with_forged w.forged (emptied_acts w i e fate o)
-    by_place None is = refl
-    by_place (Some p) never = absurd never
-
 -- where the places are as after an event, no report is untaken
 pub acted_rests : (w : World) (i : ℕ) (e : CoreEvent) (fate : Fate) → IsAtRest w → (q : Place) → place_at i (acted_at i e fate w.places) ≡ Some q → IsRested q.core
 acted_rests w i e fate rest q h = by_place (place_at i w.places) refl h

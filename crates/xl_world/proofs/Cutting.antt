@@ -201,14 +201,6 @@ cuts_nowhere w at new a_ask i its none = by_place (place_at i w.places) refl non
     by_place None here is_none = ap (λ (j : ℕ). cut_steps w at new j (event_asked at a_ask)) (sym its) ∙ cut_nowhere w i at new (event_asked at a_ask) here
     by_place (Some p) here is_none = absurd (no_disk p.disk (sym is_none))
 
--- where there is one it answers
-pub cuts_answer : (w : World) (i : ℕ) (e : CoreEvent) (fate : Fate) (k : Disk) → Some k ≡ disk_in i w.places → AnswersAt i e fate w.places None → ⊥
-cuts_answer w i e fate k held = by_place (place_at i w.places) held
-  where
-    by_place : (o : Option Place) → Some k ≡ option_map (λ (p : Place). p.disk) o → Answers e fate o None → ⊥
-    by_place None none answers = no_disk k none
-    by_place (Some p) kept answers = answers
-
 -- RESTARTS
 
 pub restarts : (w : World) (at i : ℕ) (k : Disk) → Some k ≡ disk_in i w.places → with_places w (put_again at (restored k (found k)) (place_at i w.places) w.places) ≡ run w (steps_at w at (what.Restart i))
@@ -220,13 +212,6 @@ restarts w at i k held = by_place (place_at i w.places) refl held
     by_place (Some p) here kept =
         ap (λ (x : Disk). with_places w (put_again at (restored x (found x)) (place_at i w.places) w.places)) (same_disk k p.disk kept)
         ∙ (restart_ran w i at p here ∙ ap (λ o. run w (option_to_list (option_map (restart at) o))) (sym here))
-
-pub restarts_nowhere : (w : World) (at i : ℕ) → None ≡ disk_in i w.places → w ≡ run w (steps_at w at (what.Restart i))
-restarts_nowhere w at i none = by_place (place_at i w.places) refl none
-  where
-    by_place : (o : Option Place) → place_at i w.places ≡ o → None ≡ option_map (λ (p : Place). p.disk) o → w ≡ run w (steps_at w at (what.Restart i))
-    by_place None here is_none = sym (ap (λ o. run w (option_to_list (option_map (restart at) o))) here)
-    by_place (Some p) here is_none = absurd (no_disk p.disk (sym is_none))
 
 pub any_ok : {X E : Type 0} (P : Type 0) (r : Result X E) → P → OnOk r P
 any_ok P (Ok x) p = p

@@ -210,9 +210,6 @@ pub record IsLeft (before : Core) (m : ℕ) (sent : Traffic) (core : Core) (now 
   pub gives : with_frames sent (given_by before (drains_for before m)) ≡ with_frames now (given_by core (drains core m more))
   pub node : core.node ≡ before.node
 
-pub left_all : (core : Core) (m : ℕ) (sent : Traffic) → IsLeft core m sent core sent
-left_all core m sent = record { more = length (all_frames core m); few = omega arith; leaves = refl; gives = refl; node = refl }
-
 -- one that gave something
 pub left_more : (before core after : Core) (m : ℕ) (sent now later : Traffic) → IsLeft before m sent core now → (length (given_in (drained_once core m).answer) ≡ 0 → ⊥) →
     after ≡ (drained_once core m).core → later ≡ with_frames now (map (sent_from core.node.me m) (given_in (drained_once core m).answer)) → IsLeft before m sent after later
@@ -234,17 +231,6 @@ left_more before core after m sent now later so some is_after is_later = by_more
               ∙ (ap (λ (t : Traffic). with_frames t (given_by left (drains left m more))) (sym is_later) ∙ ap (λ (c : Core). with_frames later (given_by c (drains c m more))) (sym is_after))));
           node = ap (λ (c : Core). c.node) is_after ∙ so.node;
         }
-
--- one that gave nothing
-pub left_none : (before core after : Core) (m : ℕ) (sent now : Traffic) → IsLeft before m sent core now → given_in (drained_once core m).answer ≡ [] → after ≡ (drained_once core m).core →
-    (after ≡ after_events before (drains_for before m)) × (now ≡ with_frames sent (given_by before (drains_for before m)))
-left_none before core after m sent now so none is_after =
-    let last = drains_end core m so.more none in (
-      is_after ∙ sym (so.leaves ∙ ap (after_events core) last),
-      sym (so.gives
-          ∙ (ap (λ es. with_frames now (given_by core es)) last
-          ∙ (ap (λ (bs : List (List ℕ)). with_frames now (map (sent_from core.node.me m) bs ++ [])) none ∙ with_none now))),
-    )
 
 -- NUMBER AFTER NUMBER
 
@@ -286,9 +272,6 @@ pub record IsDrainedTo (numbers : List ℕ) (k : ℕ) (before core : Core) (sent
   pub leaves : core ≡ after_events before (drains_in_turn before (others (take k numbers) before.node.me))
   pub gives : now ≡ with_frames sent (given_by before (drains_in_turn before (others (take k numbers) before.node.me)))
   pub node : core.node ≡ before.node
-
-pub drained_first : (numbers : List ℕ) (core : Core) (sent : Traffic) → IsDrainedTo numbers 0 core core sent sent
-drained_first numbers core sent = record { leaves = refl; gives = sym (with_none sent); node = refl }
 
 pub drained_more : (numbers : List ℕ) (k : ℕ) (before core after : Core) (sent now later : Traffic) (m : ℕ) → k < length numbers → m ≡ get_or numbers k m → (m == before.node.me) ≡ false →
     IsDrainedTo numbers k before core sent now → after ≡ after_events core (drains_for core m) → later ≡ with_frames now (given_by core (drains_for core m)) → IsDrainedTo numbers (k + 1) before after sent later

@@ -4,13 +4,11 @@ use Rattle.std.proofs.lemmas.Bool.{cases_Bool}
 use Rattle.xl_lists.specs.Agreement.{Agree}
 use Rattle.xl_sched.specs.declared.event.Event.{Event}
 use Rattle.xl_sched.specs.declared.event.What.{What}
-use Rattle.xl_world.specs.declared.extent.Extent.{Extent}
-use Rattle.xl_world.specs.Ends.{Grows, IsLeft, cut_back, ended, extent_of}
+use Rattle.xl_world.specs.Ends.{IsLeft, ended}
 use Rattle.xl_world.specs.Schedule.{IsPlausible, after_event, steps_at}
 use Rattle.xl_world.specs.Starts.{IsRun, start}
 use Rattle.xl_world.specs.World.{World, run}
 use Rattle.xl_world.specs.Worlds.{IsKept}
-use Rattle.xl_world.proofs.Growing.{cut_ended}
 use Rattle.xl_world.proofs.Lists.{world_agrees}
 use Rattle.xl_world.proofs.Runs.{run_stays}
 use Rattle.xl_world.proofs.Worldly.{goes_well}
@@ -38,10 +36,6 @@ pub kept_left : (b : Bool) (n w : World) → with_spent n b ≡ w → IsKept b n
 kept_left false n w is kept h = absurd (never (sym h ∙ sym (ap (λ (u : World). u.spent) is)))
 kept_left true n w is kept h = subst IsLeft is kept
 
--- what is left of a world doesn't change any more
-pub left_ended : (w : World) → IsLeft w → w ≡ ended w
-left_ended w left = left.2 ∙ ap ended (sym left.2)
-
 -- the network of a world that isn't spent is the world
 pub kept_same : (b : Bool) (n w : World) → with_spent n b ≡ w → IsKept b n → b ≡ false → n ≡ w
 kept_same false n w is kept h = sym (unspent_same n (run_unspent n kept.0)) ∙ is
@@ -61,13 +55,6 @@ all_agree w is_run is_left none = elim (cases_Bool w.spent) [
 
 -- AN EVENT
 
--- a world whose mark is set is no world whose mark isn't
-pub unspent_never : (b : Bool) (n w : World) → with_spent n b ≡ w → b ≡ false → w.spent ≡ true → ⊥
-unspent_never b n w is going h = never (sym h ∙ (sym (ap (λ (u : World). u.spent) is) ∙ going))
-
-pub spent_so : (b : Bool) (n w : World) → with_spent n b ≡ w → b ≡ true → w.spent ≡ true
-spent_so b n w is h = sym (ap (λ (u : World). u.spent) is) ∙ h
-
 -- what an event leaves that comes to its end
 pub event_same : (b : Bool) (n v w : World) (e : Event) → with_spent n b ≡ w → IsKept b n → b ≡ false → v ≡ run n (steps_at n e.at e.what) → with_spent v b ≡ after_event w e
 event_same false n v w e is kept going ran =
@@ -78,11 +65,3 @@ event_same true n v w e is kept going ran = absurd (never going)
 pub kept_on : (b : Bool) (n v : World) (at : ℕ) (happening : What) → b ≡ false → v ≡ run n (steps_at n at happening) → IsPlausible happening → IsKept b n → IsKept b v
 kept_on false n v at happening going ran plausible kept = goes_well n v at happening ran plausible kept
 kept_on true n v at happening going ran plausible kept = absurd (never going)
-
--- and one that runs out of memory
-pub cut_so : (n v u : World) (x : Extent) → x ≡ extent_of n → Grows n v → u ≡ cut_back x v → with_spent u true ≡ ended n
-cut_so n v u x is_x grows is_u = ap (λ (y : World). with_spent y true) (is_u ∙ ap (λ (e : Extent). cut_back e v) is_x) ∙ cut_ended n v grows
-
-pub kept_end : (b : Bool) (n v u : World) (x : Extent) → b ≡ false → IsKept b n → x ≡ extent_of n → Grows n v → u ≡ cut_back x v → IsKept true u
-kept_end false n v u x going kept is_x grows is_u = (n, kept.0, cut_so n v u x is_x grows is_u)
-kept_end true n v u x going kept is_x grows is_u = absurd (never going)

@@ -3,7 +3,7 @@ use Rattle.std.proofs.Common.{◌≡◌, ℕ, zero, suc, ◌+◌, ◌<◌, ◌�
 use Rattle.std.specs.Prelude.{◌||◌, All, OnErr, option_map, slice_get}
 use Rattle.std.specs.List.{list_any}
 use Rattle.std.specs.Str.{bytes_eq}
-use Rattle.std.proofs.lemmas.List.{drop-append-le, drop_at, length-append, length-drop, length-set, length-take, map-append, set-get_or, set_split, take-append-le, take_all, take_at, take_more}
+use Rattle.std.proofs.lemmas.List.{drop-append-le, length-append, length-drop, length-set, length-take, map-append, set-get_or, set_split, take-append-le, take_all, take_at, take_more}
 use Rattle.std.proofs.lemmas.List.Elements.{All-append, All-cons, All-head, All-nil, All-tail, All-weaker}
 use Rattle.std.proofs.lemmas.List.Folds.{list_any_at, list_any-append}
 use Rattle.std.proofs.lemmas.Option.{get_or_from_slice_get, slice_get-get_or, slice_get-map, slice_get_within}
@@ -55,13 +55,6 @@ within_more bytes new kept ps p all longer there long short =
     (All-cons (IsWithin (length new)) p [] (omega (arith, there.0, long), omega (arith, short, long)) (All-nil (IsWithin (length new))))
 
 -- A FRAME THAT IS KEPT
-
--- behind all others
-pub kept_behind : (bytes kept : List ℕ) (begins : ℕ) → begins ≡ length bytes → IsKeptAt (bytes ++ kept) begins kept
-kept_behind bytes kept begins is = (
-  omega (arith, is, length-append bytes kept),
-  ap (λ (bs : List ℕ). addressed (address_in kept) bs) (ap (take (length kept)) (drop_at bytes kept begins (sym is)) ∙ take_all (length kept) kept (omega arith)) ∙ set-get_or kept 13 0,
-)
 
 -- where one is that differs by its address
 pub kept_there : (bytes kept : List ℕ) (begins n : ℕ) → begins + n ≤ length bytes → ((a : ℕ) → addressed a (take n (drop begins bytes)) ≡ addressed a kept) → IsKeptAt bytes begins kept

@@ -69,14 +69,6 @@ timed_more first at before k now told i v told' within found timed is is_told =
           ∙ ap (λ (os : List Outcome). os ++ told_in v (timers v at left)) (sym is_told)))));
     }
 
-pub timed_all : (first : World) (at : ℕ) (before : List Outcome) (k : ℕ) (now : World) (told : List Outcome) → length first.numbers ≤ k → IsTimed first at before k now told →
-    (now ≡ run first (timers first at first.numbers)) × (told ≡ before ++ told_in first (timers first at first.numbers))
-timed_all first at before k now told past timed =
-    let none : drop k first.numbers ≡ [] = none_left first.numbers k past in (
-      sym (timed.world ∙ ap (λ (xs : List ℕ). run now (timers now at xs)) none),
-      sym (timed.told ∙ (ap (λ (xs : List ℕ). told ++ told_in now (timers now at xs)) none ∙ append-nil told)),
-    )
-
 -- SENT FRAMES
 
 pub sent_grows : (w : World) (i : ℕ) (e : CoreEvent) (fate : Fate) (o : Option Place) → (more : List Sent) × ((emptied_acts w i e fate o).sent ≡ w.sent ++ more)

@@ -6,7 +6,7 @@ use Rattle.xl_lists.specs.declared.report.Report.{Report as Reported}
 use Rattle.xl_lists.specs.declared.said.SaidLedger.{SaidLedger}
 use Rattle.xl_world.specs.declared.place.Place.{Place}
 use Rattle.xl_world.specs.declared.plan.InForce.{InForce}
-use Rattle.xl_world.specs.Ends.{Grows, IsLonger, cut_back, ended, extent_of}
+use Rattle.xl_world.specs.Ends.{Grows, IsLonger}
 use Rattle.xl_world.specs.Seen.{with_forged, with_places}
 use Rattle.xl_world.specs.Sending.{Sent}
 use Rattle.xl_world.specs.World.{World}
@@ -74,18 +74,3 @@ grows_counted w v n g = record { liars = g.liars; numbers = g.numbers; sent = g.
 abbrev left : ℕ → ℕ → List ℕ → List ℕ → List Sent → List SaidLedger → List Reported → List InForce → World
 left mark forged liars numbers sent said reports lists =
     record { liars = liars; numbers = numbers; places = []; sent = sent; mark = mark; said = said; reports = reports; lists = lists; forged = forged; spent = true }
-
-pub cut_ended : (w v : World) → Grows w v → (record (cut_back (extent_of w) v) { spent = true }) ≡ ended w
-cut_ended w v g =
-    let sent : List Sent = take (length w.sent) v.sent in
-    let said : List SaidLedger = take (length w.said) v.said in
-    let reports : List Reported = take (length w.reports) v.reports in
-    let lists : List InForce = take (length w.lists) v.lists in
-    let n = w.forged in
-    let m = w.mark in
-    ap (λ (x : List ℕ). left m n x v.numbers sent said reports lists) g.liars
-    ∙ (ap (λ (x : List ℕ). left m n w.liars x sent said reports lists) g.numbers
-    ∙ (ap (λ (x : List Sent). left m n w.liars w.numbers x said reports lists) (front w.sent v.sent g.sent)
-    ∙ (ap (λ (x : List SaidLedger). left m n w.liars w.numbers w.sent x reports lists) (front w.said v.said g.said)
-    ∙ (ap (λ (x : List Reported). left m n w.liars w.numbers w.sent w.said x lists) (front w.reports v.reports g.reports)
-    ∙ ap (λ (x : List InForce). left m n w.liars w.numbers w.sent w.said w.reports x) (front w.lists v.lists g.lists)))))

@@ -1,5 +1,5 @@
 -- The index of sent frames, and what it finds.
-use Rattle.std.proofs.Common.{◌≡◌, ℕ, ◌+◌, ◌-◌, ◌<◌, Bool, true, false, cond, List, [], ◌++◌, length, get_or, refl, arith, ap, sym, ◌∙◌, inl, inr, Option, Some, None, subst, length-append}
+use Rattle.std.proofs.Common.{◌≡◌, ℕ, ◌+◌, ◌-◌, ◌<◌, true, false, cond, List, ◌++◌, length, get_or, refl, arith, ap, sym, ◌∙◌, inl, inr, Option, Some, None, subst, length-append}
 use Rattle.std.specs.Prelude.{◌⊎◌, All, is_some, slice_get}
 use Rattle.std.specs.Str.{bytes_eq}
 use Rattle.std.proofs.lemmas.Bool.{cases_Bool, cond-true, cond-false}
@@ -21,9 +21,6 @@ some_none x e = cc
 
 never : true ≡ false → ⊥
 never e = cc
-
-pub index_none : (index : TagIndex) → index.indexed ≡ 0 → IsIndex index []
-index_none index none = record { few = omega (arith, none); placed = λ kept k d below. absurd (omega (arith, below, none)) }
 
 -- bytes stand where they stood, however many more frames were sent
 still_at : (sent more : List Sent) (place : ℕ) (bytes : List ℕ) → is_at sent place bytes ≡ true → is_at (sent ++ more) place bytes ≡ true
@@ -132,8 +129,3 @@ new_leads old new sent tag f place below here its inserted =
 pub none_of : {X : Type 0} (o : Option X) → false ≡ is_some o → o ≡ None
 none_of None e = refl
 none_of (Some x) e = absurd (never (sym e))
-
--- either a frame was added, or the index was given up
-pub smaller : (n i j : ℕ) (up : Bool) → i < n → (up ≡ false → j ≡ i + 1) → (up ≡ true → j ≡ i) → (n - j) + cond up 0 1 < (n - i) + 1
-smaller n i j true below added same = omega (arith, below, same refl)
-smaller n i j false below added same = omega (arith, below, added refl)

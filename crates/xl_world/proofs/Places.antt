@@ -98,15 +98,9 @@ again_there xs i k now disk d y found is =
 pub again_nowhere : (xs : List Place) (i now : ℕ) (disk : Disk) → position (λ p. p.core.node.me == i) xs ≡ None → xs ≡ put_again now disk (place_at i xs) xs
 again_nowhere xs i now disk none = ap (λ o. put_again now disk o xs) (sym (none_there xs i none))
 
-pub acted_nowhere : (xs : List Place) (i : ℕ) (e : CoreEvent) (fate : Fate) → position (λ p. p.core.node.me == i) xs ≡ None → xs ≡ acted_at i e fate xs
-acted_nowhere xs i e fate none = ap (λ o. put_acted e fate o xs) (sym (none_there xs i none))
-
 pub answered_there : (xs : List Place) (i k : ℕ) (e : CoreEvent) (fate : Fate) (d : Place) (a : NodeAnswer) → position (λ p. p.core.node.me == i) xs ≡ Some k →
     IsAnswer (get_or xs k d) e fate a → AnswersAt i e fate xs (Some a)
 answered_there xs i k e fate d a found is = subst (λ o. Answers e fate o (Some a)) (sym (found_there xs i k d found)) is
-
-pub answered_nowhere : (xs : List Place) (i : ℕ) (e : CoreEvent) (fate : Fate) → position (λ p. p.core.node.me == i) xs ≡ None → AnswersAt i e fate xs None
-answered_nowhere xs i e fate none = subst (λ o. Answers e fate o None) (sym (none_there xs i none)) tt
 
 -- a place comes in place of the one of its number
 pub put_nowhere : (x : Place) (ps : List Place) → place_at x.core.node.me ps ≡ None → put x ps ≡ ps
@@ -116,9 +110,6 @@ put_nowhere x (y ∷ ys) none =
     (λ _ here. cc)
     (λ other there. cond-false (y.core.node.me == x.core.node.me) _ _ other ∙ cons_same _ _ _ _ refl (put_nowhere x ys there))
     none
-
-pub put_its : (xs : List Place) (k : ℕ) (d y : Place) → position (λ p. p.core.node.me == y.core.node.me) xs ≡ Some k → set xs k y ≡ put y xs
-put_its xs k d y found = let at = position-Some (λ p. p.core.node.me == y.core.node.me) xs k d found in put_there xs y.core.node.me k d y at.0 at.1 (λ j h. at.2 j h) refl
 
 -- and where there is none of its number, nothing changes
 pub put_none : (xs : List Place) (y : Place) → position (λ p. p.core.node.me == y.core.node.me) xs ≡ None → put y xs ≡ xs

@@ -96,7 +96,3 @@ report_backed liars said p well says (Some q) h = All-cons (IsBacked liars said)
       quorum = subst (λ ms. p.node.list.quorum ≤ count_by (vouches liars said q.seq q.id) ms) well.members (omega (arith, h, count_rows liars said q.seq q.id p.node.rows says));
     })
     (All-nil (IsBacked liars said))
-
--- what holds of everything at a node holds with a weaker fact
-pub node_weaker : (P Q : SaidLedger → Type 0) → ((x : SaidLedger) → P x → Q x) → (n : Node) → NodeSays P n → NodeSays Q n
-node_weaker P Q h n says = All-weaker (RowSays P) (RowSays Q) (λ row. if_some _ _ (λ v. h (said_by row.member v)) row.current) n.rows says
