@@ -1,5 +1,5 @@
 -- The word that tells for whom something is left is right after each change.
-use Rattle.std.proofs.Common.{◌≡◌, ◌≢◌, ◌∙◌, ℕ, zero, suc, ◌+◌, ◌-◌, ◌<◌, ◌≤◌, ◌==◌, ◌++◌, Bool, true, false, not, cond, eqb, List, [], ◌∷◌, length, map, drop, set, get_or, refl, sym, ap, subst, arith, inl, inr, Some, None, Option, get_or-set_same, get_or-set_other, eq-eqb, ne_eqb}
+use Rattle.std.proofs.Common.{◌≡◌, ◌≢◌, ◌∙◌, ℕ, zero, suc, ◌<◌, ◌≤◌, ◌++◌, Bool, true, false, not, cond, eqb, List, [], ◌∷◌, length, drop, set, get_or, refl, sym, ap, subst, arith, inl, inr, Some, None, Option, get_or-set_same, get_or-set_other, ne_eqb}
 use Rattle.std.proofs.lemmas.Bool.{cases_eq}
 use Rattle.std.proofs.lemmas.List.{get_or-map, get_or-replicate, length-replicate, length-append, length-drop, length-map, length-set}
 use Rattle.std.proofs.lemmas.Nat.Bits.{bit_at_ones, bit_at-zero}
