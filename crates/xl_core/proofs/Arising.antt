@@ -1,5 +1,5 @@
 -- What a node at rest reports once a row has taken a validation: that validation's ledger, or nothing.
-use Rattle.std.proofs.Common.{◌≡◌, ℕ, ◌*◌, ◌<◌, ◌≤◌, true, false, List, [], ◌∷◌, length, refl, arith, ap, sym, ◌∙◌, inl, inr, Option, Some, None, subst}
+use Rattle.std.proofs.Common.{◌≡◌, ℕ, ◌*◌, ◌<◌, ◌≤◌, true, false, List, length, refl, arith, ap, sym, ◌∙◌, inl, inr, Option, Some, None, subst}
 use Rattle.std.specs.Prelude.{◌&&◌, ◌||◌, find, filter_map, option_map, IsSome, IfSome, is_some, nat_le}
 use Rattle.std.proofs.lemmas.Bool.{and_parts, and_from, cond_both, cond-true, cases_Bool, leb-true, le-leb, le-ltb}
 use Rattle.xl_base.specs.declared.ids.LedgerId.{LedgerId}

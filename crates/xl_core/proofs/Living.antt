@@ -1,5 +1,5 @@
 -- A node stays at rest over every event: nothing is left to report.
-use Rattle.std.proofs.Common.{◌≡◌, ℕ, Bool, List, [], ◌∷◌, refl, ap, sym, Option, Some, None, subst}
+use Rattle.std.proofs.Common.{◌≡◌, ℕ, Bool, List, [], ◌∷◌, refl, ap, Option, Some, None, subst}
 use Rattle.std.specs.Prelude.{All, nat_lt, is_some}
 use Rattle.std.proofs.lemmas.Bool.{cond_both}
 use Rattle.std.proofs.lemmas.List.Elements.{All-head, All-tail}
@@ -20,10 +20,9 @@ use Rattle.xl_core.specs.Building.{usual_mode}
 use Rattle.xl_core.specs.declared.hearing.Speech.{Speech}
 use Rattle.xl_core.specs.declared.hearing.Speech.TheVariants as speech
 use Rattle.xl_core.specs.declared.refusal.Refusal.TheVariants.{NotAfter}
-use Rattle.xl_core.specs.declared.report.Report.{Report}
 use Rattle.xl_core.specs.Lasts.{later, over_another_list}
 use Rattle.xl_core.specs.Lives.{Happening, IsFitEvent, IsFit, node_after}
-use Rattle.xl_core.specs.Node.{Node, Event, Issue, Frame, Timer, Submit, Relist, Reply, Save, issued_unless_off, happens, issued_reply, issuing_reply, refusing, replying, timer_reply, timer_outcome, validates, validating_built, with_tx, with_list, reporting, with_taken, take, arisen, arises_in, placing, taken_reply, bytes_reply, at_moment, second_of, own_validation, report_if}
+use Rattle.xl_core.specs.Node.{Node, Event, Issue, Frame, Timer, Submit, Relist, Reply, Save, issued_unless_off, happens, issued_reply, issuing_reply, refusing, replying, timer_reply, timer_outcome, validates, validating_built, with_list, reporting, with_taken, take, arisen, placing, taken_reply, at_moment, second_of, own_validation}
 use Rattle.xl_core.specs.Issuing.Save.{Kept, Failed}
 use Rattle.xl_core.specs.Rest.{IsAtRest}
 use Rattle.xl_core.proofs.Answered.{arisen_then, few_rows, rest_when_taken, stays}

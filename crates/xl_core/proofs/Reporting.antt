@@ -1,15 +1,14 @@
 -- The law of reports: a report arises exactly if a quorum holds what is new, and sequences rise between two changes of
 -- the list.
-use Rattle.std.proofs.Common.{◌≡◌, ◌≢◌, ℕ, zero, suc, Bool, ◌+◌, ◌<◌, ◌≤◌, true, false, List, [], ◌∷◌, ◌++◌, length, get_or, refl, arith, ap, sym, ◌∙◌, inl, inr, Option, Some, None, subst}
-use Rattle.std.specs.Prelude.{◌==◌, ◌&&◌, ◌||◌, ◌⊎◌, not, All, IfSome, map, find, filter_map, option_map, option_to_list, nat_lt}
+use Rattle.std.proofs.Common.{◌≡◌, ℕ, zero, suc, Bool, ◌+◌, ◌<◌, ◌≤◌, true, false, List, [], ◌∷◌, ◌++◌, get_or, refl, arith, ap, sym, ◌∙◌, inl, inr, Option, Some, None, subst}
+use Rattle.std.specs.Prelude.{◌==◌, ◌&&◌, ◌||◌, not, All, IfSome, map, find, filter_map, option_map, option_to_list, nat_lt}
 use Rattle.std.specs.Option.{is_none}
 use Rattle.std.specs.List.Sorted.{IsStrictlyIncreasing}
-use Rattle.std.proofs.lemmas.Option.{none-some, same_Some}
-use Rattle.std.proofs.lemmas.Bool.{and_parts, and_from, or_cases, or_left, or_right, cases_Bool, cond_both, eqb-true, eq-eqb, ltb-true, lt-ltb, leb-true, false_from_ne_true}
+use Rattle.std.proofs.lemmas.Bool.{and_parts, and_from, or_cases, or_left, or_right, cond_both, eqb-true, eq-eqb, ltb-true, lt-ltb, false_from_ne_true}
 use Rattle.std.proofs.lemmas.List.Elements.{All-cons, All-nil, All-map, All-weaker}
 use Rattle.xl_base.specs.Ids.{same_id}
 use Rattle.xl_base.specs.declared.ids.LedgerId.{LedgerId}
-use Rattle.xl_lists.specs.Lists.{TrustedList, IsValid}
+use Rattle.xl_lists.specs.Lists.{TrustedList}
 use Rattle.xl_lists.proofs.Agreement.{same_id-true, same_id_itself}
 use Rattle.xl_wire.specs.declared.validation.Validation.{Validation}
 use Rattle.xl_validations.specs.Rows.{count_full}
@@ -25,8 +24,8 @@ use Rattle.xl_core.specs.declared.refusal.Refusal.{Refusal}
 use Rattle.xl_core.specs.declared.refusal.Refusal.TheVariants.{NotAfter}
 use Rattle.xl_core.specs.declared.report.Report.{Report}
 use Rattle.xl_core.specs.declared.taken.Taken.TheVariants.{Validation as TakenValidation}
-use Rattle.xl_core.specs.Lasts.{is_last, is_news, later, none_reported}
-use Rattle.xl_core.specs.Lives.{Happening, IsFit, SetNoList, sets_list, node_after, reports_in, last_of, set_then, set_after, IsNew, ReportsArise, ReportsRise}
+use Rattle.xl_core.specs.Lasts.{is_news, later}
+use Rattle.xl_core.specs.Lives.{Happening, SetNoList, sets_list, node_after, reports_in, last_of, set_then, set_after, IsNew, ReportsArise, ReportsRise}
 use Rattle.xl_core.specs.Node.{Node, Event, Issue, Frame, Timer, Submit, Relist, Quiet, Reply, Save, issued_unless_off, opened, happens, issued_reply, issuing_reply, replying, reply_unless, timer_reply, timer_outcome, validates, validating_built, with_tx, with_list, with_saved, refusing, reporting, with_taken, arises, arisen, report_of, taken_reply, bytes_reply, at_moment, second_of, own_validation, key_refusal}
 use Rattle.xl_core.specs.Issuing.Save.{Kept, Failed}
 use Rattle.xl_core.specs.Rest.{IsAtRest}

@@ -14,7 +14,6 @@ use Rattle.xl_wire.specs.declared.proposal.Proposal.{Proposal}
 use Rattle.xl_wire.specs.Heads.{raw_in}
 use Rattle.xl_validations.specs.declared.refusal.ValRefusal.{ValRefusal}
 use Rattle.xl_validations.specs.Rows.{refusal_of, relisted}
-use Rattle.xl_ledger.specs.declared.header.Header.{Header}
 use Rattle.xl_ledger.specs.Registries.{with_header, add_refusal}
 use Rattle.xl_rounds.specs.declared.placed.Placed.{Placed}
 use Rattle.xl_rounds.specs.declared.placed.Placed.TheVariants as placed

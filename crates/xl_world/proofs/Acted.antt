@@ -4,7 +4,6 @@ use Rattle.std.specs.Prelude.{◌==◌, position}
 use Rattle.xl_core.specs.declared.deed.Deed.{Deed}
 use Rattle.xl_core.specs.declared.event.CoreEvent.{CoreEvent}
 use Rattle.xl_world.specs.declared.act.NodeAnswer.{NodeAnswer}
-use Rattle.xl_world.specs.declared.outcome.Outcome.{Outcome}
 use Rattle.xl_world.specs.declared.place.Fate.{Fate}
 use Rattle.xl_world.specs.declared.place.Place.{Place}
 use Rattle.xl_world.specs.Emptying.{event_steps}

@@ -1,5 +1,5 @@
 -- What happens at a core whose disk's save meets a fate: the core, what is said of it, and the disk.
-use Rattle.std.proofs.Common.{◌≡◌, ◌≢◌, ℕ, ◌≤◌, Bool, true, false, List, [], refl, ap, sym, ◌∙◌, Option, Some, None, Result, Ok, Err}
+use Rattle.std.proofs.Common.{◌≡◌, ◌≢◌, ℕ, ◌≤◌, Bool, true, false, List, [], refl, ap, sym, ◌∙◌, Option, Some, None}
 use Rattle.std.specs.Prelude.{◌==◌, IfSome, IsSome, if◌then◌else◌, is_some, nat_lt, option_map, option_to_list, unwrap_or}
 use Rattle.std.proofs.lemmas.Bool.{cond_both}
 use Rattle.xl_base.specs.declared.ids.LedgerId.{LedgerId}
@@ -15,7 +15,7 @@ use Rattle.xl_rounds.specs.declared.heartbeat.HeartbeatKind.{HeartbeatKind}
 use Rattle.xl_rounds.specs.declared.heartbeat.HeartbeatKind.TheVariants as kind
 use Rattle.xl_rounds.specs.declared.heartbeat.Said.{Said}
 use Rattle.xl_tags.specs.Rings.{key_of, schedule_ring}
-use Rattle.xl_core.specs.Answers.{Answer, Done as AnsweredDone, refusal_in}
+use Rattle.xl_core.specs.Answers.{Done as AnsweredDone, refusal_in}
 use Rattle.xl_core.specs.Building.{Knowing, alone, how_issued, knowing}
 use Rattle.xl_core.specs.Core.{Core, CoreReply, core_asks, core_happens}
 use Rattle.xl_core.specs.Hearing.{bytes_as_sealed}
@@ -27,18 +27,14 @@ use Rattle.xl_core.specs.Node as nodes
 use Rattle.xl_core.specs.Node.{Node, Reply, Save, TimerOutcome, heartbeat_outcome, asks_for, at_moment, built, built_outcome, chosen, timer_reply, built_reply, kind_outcome, happens, bytes_reply, is_kept, issued_unless_off, issuing_reply, own_validation, refusing, replying, seen, switch_outcome, taken_reply, timer_outcome, validates, validating_built}
 use Rattle.xl_core.specs.Issuing.Save.{Kept as AnsweredOk, Failed as AnsweredFailed}
 use Rattle.xl_core.specs.Timer.TimerOutcome.{Quiet, Ending}
-use Rattle.xl_core.specs.Replies.{Answers, Issues, done_answer, save_in, save_of, taken_answer, was_kept}
-use Rattle.xl_core.specs.TimerParts.{Beaten, CountsBeatFault, beat_was_kept, save_at}
 use Rattle.xl_core.specs.declared.timer_answer.TimerAnswer.{TimerAnswer}
 use Rattle.xl_core.specs.declared.timer_answer.TimerAnswer.TheVariants as timer_answer
-use Rattle.xl_core.specs.declared.timer_answer.Issued.TheVariants as issued
 use Rattle.xl_core.specs.declared.event.CoreEvent.{CoreEvent}
-use Rattle.xl_core.specs.declared.event.CoreEvent.TheVariants.{Issue, Relist, Timer}
+use Rattle.xl_core.specs.declared.event.CoreEvent.TheVariants.{Relist}
 use Rattle.xl_core.specs.declared.hearing.Speech.{Speech}
 use Rattle.xl_core.specs.declared.hearing.Speech.TheVariants as speech
 use Rattle.xl_core.specs.declared.refusal.Refusal.TheVariants as why
 use Rattle.xl_core.specs.declared.report.Report.{Report}
-use Rattle.xl_core.specs.declared.taken.Taken.{Taken}
 use Rattle.xl_core.proofs.Frames.{hearing_either}
 use Rattle.xl_core.proofs.Timing.{submit_either, relist_either}
 use Rattle.xl_core.specs.declared.deed.Deed.{Deed}

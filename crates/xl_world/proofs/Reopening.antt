@@ -1,21 +1,11 @@
 -- Nodes that are opened anew, and events whose save is cut off.
 use Rattle.std.proofs.Common.{◌≡◌, ℕ, Bool, true, false, List, [], ◌∷◌, refl, ap, sym, ◌∙◌, Option, Some, None, append-nil}
-use Rattle.std.specs.Prelude.{◌==◌, ◌||◌, if◌then◌else◌, nat_lt, unwrap_or}
+use Rattle.std.specs.Prelude.{◌==◌, ◌||◌, if◌then◌else◌, unwrap_or}
 use Rattle.std.proofs.lemmas.Bool.{cond-true, eq-eqb, or_left, or_right}
 use Rattle.xl_io.specs.Keepers.{is_asked, may_hold}
-use Rattle.xl_base.specs.declared.ids.LedgerId.{LedgerId}
 use Rattle.xl_lists.specs.declared.report.Report.{Report as Reported}
-use Rattle.xl_core.specs.Core.{Core, core_asks, core_happens, stepped}
-use Rattle.xl_core.specs.Building.{said_items, usual_mode}
-use Rattle.xl_core.specs.declared.refusal.Refusal.TheVariants.{NotAfter}
-use Rattle.xl_ledger.specs.declared.header.Header.{Header}
-use Rattle.xl_ledger.specs.Headers.{header_id}
-use Rattle.xl_rounds.specs.Rounds.{is_proposing}
-use Rattle.xl_core.specs.Answers.{Done}
-use Rattle.xl_core.specs.Node.{Node, Reply, Save, TimerOutcome, asks_for, asks_of, at_moment, timer_reply, built_reply, issued_unless_off, issuing_reply, own_validation, refusing, replying, starting, timer_outcome, unless_failed, validates, validating_built}
-use Rattle.xl_core.specs.Timer.TimerOutcome.{Quiet, Ending}
+use Rattle.xl_core.specs.Core.{core_asks}
 use Rattle.xl_core.specs.declared.event.CoreEvent.{CoreEvent}
-use Rattle.xl_core.specs.declared.event.CoreEvent.TheVariants.{Issue, Frame, Timer, Submit, Greet, Drain, Reports, Stop, Stopped, Relist}
 use Rattle.xl_world.specs.declared.place.Disk.{Disk}
 use Rattle.xl_world.specs.declared.place.Place.{Place}
 use Rattle.xl_world.specs.declared.plan.InForce.{InForce}

@@ -1,7 +1,5 @@
 -- a node on its list takes its own as it takes any member's, and off its list it has no row that could change
-use Rattle.std.proofs.Common.{◌≡◌, ◌∙◌, ap, sym, subst}
-use Rattle.std.specs.Prelude.{false}
-use Rattle.xl_lists.specs.Lists.{is_on}
+use Rattle.std.proofs.Common.{◌∙◌, sym}
 use Rattle.xl_wire.specs.declared.validation.Validation.{Validation}
 use Rattle.xl_core.specs.Node.{Node}
 use Rattle.xl_core.specs.Rest.{node_seen}

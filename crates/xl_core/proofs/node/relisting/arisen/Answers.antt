@@ -1,8 +1,8 @@
-use Rattle.std.proofs.Common.{◌≡◌, ◌∙◌, ap, sym, drop, length, arith}
+use Rattle.std.proofs.Common.{◌∙◌, ap, sym, length, arith}
 use Rattle.std.specs.Prelude.{find, option_map}
 use Rattle.std.proofs.lemmas.List.{drop_all}
 use Rattle.xl_core.specs.Node.{arises_in, report_of}
-use Rattle.xl_core.proofs.Relisting.{arisen_among, currents_by_members, found_there, passed_over}
+use Rattle.xl_core.proofs.Relisting.{arisen_among, currents_by_members}
 use Rattle.xl_core.proofs.node.relisting.arisen.Goals as goal
 
 pub loop-member-init : goal.loop-member-init

@@ -1,5 +1,5 @@
 -- the core's step is its node's, and of the own row a list that is set keeps what was there, so it stays covered
-use Rattle.std.proofs.Common.{◌≡◌, sym, subst}
+use Rattle.std.proofs.Common.{sym, subst}
 use Rattle.xl_core.specs.declared.event.CoreEvent.TheVariants as event
 use Rattle.xl_core.specs.Answers.{Refused, Done}
 use Rattle.xl_core.specs.Node.{Relist, happens}

@@ -1,5 +1,5 @@
 -- a bit below the 64th that is set or cleared is then so, and every other bit is as it was
-use Rattle.std.proofs.Common.{◌≡◌, ℕ, suc, ◌<◌, ◌*◌, ◌%◌, ◌^◌, ◌∙◌, bit_and, bit_or, ap, sym, subst, arith, w64}
+use Rattle.std.proofs.Common.{◌≡◌, ℕ, ◌<◌, ◌*◌, ◌%◌, ◌^◌, ◌∙◌, bit_and, bit_or, ap, sym, subst, arith, w64}
 use Rattle.std.specs.Int.{bit_at, bit_not}
 use Rattle.std.proofs.lemmas.Nat.Bits.{bit_at_set_same, bit_at_set_other, bit_at_clear_same, bit_at_clear_other}
 use Rattle.xl_core.specs.Marks.{mark}

@@ -10,11 +10,10 @@ use Rattle.xl_core.specs.declared.deed.Deed.{Deed}
 use Rattle.xl_core.specs.declared.event.CoreEvent.{CoreEvent}
 use Rattle.xl_world.specs.declared.place.Disk.{Disk}
 use Rattle.xl_world.specs.declared.place.Place.{Place}
-use Rattle.xl_world.specs.declared.saving.Fated.{Fated}
 use Rattle.xl_world.specs.Disk.{answer_of}
 use Rattle.xl_world.specs.Emptying.{handed_out}
 use Rattle.xl_world.specs.Seen.{Does, deed_event, is_relisted, list_now, said_in}
-use Rattle.xl_world.specs.World.{disk_after, reply_at}
+use Rattle.xl_world.specs.World.{reply_at}
 use Rattle.xl_world.proofs.Doing.{happens_does, report_left, said_so, set_so, untaken_then}
 use Rattle.xl_world.proofs.Taking.{few_reports}
 use Rattle.xl_world.proofs.place.Place.happens.Goals as goal
