@@ -1,6 +1,6 @@
 -- What a node keeps as its time is set and rows expire.
 use Rattle.std.proofs.Common.{◌≡◌, ℕ, ◌+◌, ◌≤◌, ◌/◌, Bool, cond, List, [], ◌∷◌, refl, sym, ap, subst, ◌∙◌, arith, Option, Some, None}
-use Rattle.std.specs.Prelude.{map, max, count_by, All}
+use Rattle.std.specs.Prelude.{map, max, count_by}
 use Rattle.std.proofs.lemmas.Bool.{cond_both}
 use Rattle.xl_base.specs.declared.ids.LedgerId.{LedgerId}
 use Rattle.xl_base.specs.Moments.{greatest_millis}
@@ -11,7 +11,7 @@ use Rattle.xl_validations.specs.Rows.{is_current, unexpired, row_at, is_full_of,
 use Rattle.xl_validations.proofs.Turning.{members_then}
 use Rattle.xl_core.specs.Node.{Node, at_moment}
 use Rattle.xl_core.proofs.Current.{current_then, none_expire}
-use Rattle.xl_core.specs.Rest.{IsAtRest, IsCurrent, IsReady}
+use Rattle.xl_core.specs.Rest.{IsAtRest, IsReady}
 
 full_then : (seq : ℕ) (id : LedgerId) (s : ℕ) (o : Option Validation) (m n : ℕ) → m ≤ n → cond (is_full_of seq id (unexpired s o)) 1 0 + m ≤ cond (is_full_of seq id o) 1 0 + n
 full_then seq id s None m n le = omega (arith, le)
@@ -55,16 +55,6 @@ pub at_its_time : (n m : Node) → n ≡ m → IsReady n → at_moment n.time m 
 at_its_time n m is ready =
     let same : n.time ≡ max n.time n.time = omega arith in
     subst (λ (x : Node). at_moment n.time x ≡ x) is (sym (same_second n.time n n.time (n.time / 1000) (n.time / 1000) ready same refl refl refl))
-
--- the time as the code has it, within a second
-pub ready_within : (now : ℕ) (n : Node) (time : ℕ) → now ≤ greatest_millis → time ≡ max n.time now → time / 1000 ≡ n.time / 1000 → IsReady n → IsReady (record n { time = time })
-ready_within now n time le time_is same ready = record {
-  rest = record { valid = ready.rest.valid; members = ready.rest.members; reported = ready.rest.reported };
-  keyed = record { own = ready.keyed.own; listed = ready.keyed.listed };
-  time = omega (arith, le, ready.time, time_is);
-  current = subst (λ (s : ℕ). All (IsCurrent s) n.rows) (sym same) ready.current;
-  known = ready.known;
-}
 
 -- the time and the rows as the code has them
 pub ready_after : (now : ℕ) (n : Node) (time second : ℕ) (rows : List Row) → now ≤ greatest_millis → time ≡ max n.time now → second ≡ time / 1000 → rows ≡ map (row_at second) n.rows → IsReady n → IsReady (record n { time = time; rows = rows })

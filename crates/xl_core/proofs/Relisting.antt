@@ -1,5 +1,5 @@
 -- A node goes over to another list.
-use Rattle.std.proofs.Common.{◌≡◌, ℕ, ◌+◌, ◌<◌, ◌==◌, Bool, true, false, List, [], ◌∷◌, ◌++◌, length, get_or, drop, refl, arith, ap, sym, ◌∙◌, Option, Some, None, IsSome, subst, append_assoc, Ok}
+use Rattle.std.proofs.Common.{◌≡◌, ℕ, ◌+◌, ◌<◌, ◌==◌, true, false, List, [], ◌∷◌, ◌++◌, length, get_or, drop, refl, arith, ap, sym, ◌∙◌, Option, Some, None, subst, append_assoc, Ok}
 use Rattle.std.specs.Prelude.{All, IfSome, map, find, filter_map, option_map, nat_eq, unwrap_or}
 use Rattle.std.specs.List.{IsDistinct, cons_option}
 use Rattle.std.specs.Option.{option_and_then}
@@ -14,12 +14,10 @@ use Rattle.xl_validations.specs.declared.row.Row.{Row}
 use Rattle.xl_validations.specs.Rows.{empty_row, row_of, row_for, current_of, relisted}
 use Rattle.xl_validations.proofs.Splitting.{members, middle}
 use Rattle.xl_rounds.specs.Rounds.{Round}
-use Rattle.xl_rounds.specs.Relisting.{relisted as relisted_round}
-use Rattle.xl_core.specs.Answers.{Done}
 use Rattle.xl_core.specs.declared.last.LastReport.{LastReport}
 use Rattle.xl_core.specs.declared.report.Report.{Report}
 use Rattle.xl_core.specs.Lasts.{later, over_another_list}
-use Rattle.xl_core.specs.Node.{Node, Reply, arises_in, arisen_in, report_if, report_of, reporting, second_of, with_list}
+use Rattle.xl_core.specs.Node.{Node, Reply, arises_in, arisen_in, report_of, second_of}
 use Rattle.xl_core.specs.Replies.{list_reply}
 use Rattle.xl_core.specs.Rest.{IsCurrent, IsReady}
 use Rattle.xl_core.proofs.Living.{set_rest}
@@ -74,15 +72,6 @@ found_there quorum rows last ms i m d v within is holds arises =
     ∙ ap (λ (o : Option Validation). option_map report_of (find (arises_in quorum rows last) (cons_option o (filter_map (λ k. current_of rows k) (drop (i + 1) ms))))) holds
     ∙ ap (option_map report_of) (cond-true (arises_in quorum rows last v) (Some v) _ arises)
 
--- whether a validation arises, as its report tells
-pub told_to_arise : (b : Bool) (v : Validation) → IsSome (report_if b v) → b ≡ true
-told_to_arise true v some = refl
-told_to_arise false v some = absurd cc
-
-pub told_not_to : (b : Bool) (v : Validation) → report_if b v ≡ None → b ≡ false
-told_not_to true v none = absurd cc
-told_not_to false v none = refl
-
 -- THE NODE THEN
 
 -- what the new rows hold is current
@@ -114,12 +103,3 @@ list_ready n list rows round report ready valid keyed rows_are setting report_is
 
 abbrev so : Node → TrustedList → List Row → Round → Option Report → Reply
 so n list rows round o = list_reply (Ok o) (record n { list = list; rows = rows; round = round; last = later (over_another_list n.last) o })
-
--- and what the definition says
-pub list_answer : (n : Node) (list : TrustedList) (rows : List Row) (round : Round) (report : Option Report) → rows ≡ relisted list.members n.rows → round ≡ relisted_round list.members n.round →
-    report ≡ arisen_in list.quorum rows (over_another_list n.last) →
-    list_reply (Ok report) (record n { list = list; rows = rows; round = round; last = later (over_another_list n.last) report }) ≡ reporting (with_list n list) Done None
-list_answer n list rows round report rows_are round_is report_is =
-    ap (λ (o : Option Report). so n list rows round o) report_is
-    ∙ ap (λ (rs : List Row). so n list rs round (arisen_in list.quorum rs (over_another_list n.last))) rows_are
-    ∙ ap (λ (r : Round). so n list (relisted list.members n.rows) r (arisen_in list.quorum (relisted list.members n.rows) (over_another_list n.last))) round_is
