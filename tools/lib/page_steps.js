@@ -109,11 +109,11 @@ function go(to) {
 }
 
 // a page beside another has no slider of its own: it asks for an event, and hands on the keys that move both
-let ask = go, press = () => false
+let ask = go, handsOn = () => false
 function besideAnother(asked, pressed) {
   document.body.classList.add('beside')
   ask = to => asked(Math.max(0, Math.min(steps.length, to)))
-  press = pressed
+  handsOn = pressed
   layOut()
 }
 
@@ -145,12 +145,12 @@ const keys = {
 const scrolls = ['ArrowUp', 'ArrowDown', 'Home', 'End']
 addEventListener('keydown', event => {
   if (event.ctrlKey || event.metaKey || event.altKey || event.shiftKey) return
-  if (!keys[event.key]) return press(event.key)
+  if (!keys[event.key]) return handsOn(event.key)
   if (event.key === 'r' && !byId('letters').checked) return
   // a pane that has the focus is scrolled, as everywhere
   if (scrolls.includes(event.key) && document.activeElement.closest('#picture, #side')) return
   event.preventDefault()
-  if (!press(event.key)) ask(keys[event.key]())
+  if (!handsOn(event.key)) ask(keys[event.key]())
 })
 byId('slider').max = steps.length
 byId('slider').oninput = event => ask(Number(event.target.value))
