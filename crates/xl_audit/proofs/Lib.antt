@@ -20,3 +20,4 @@ pub mod Events
 pub mod Heading
 pub mod Counting
 pub mod Rereading
+pub mod Leading

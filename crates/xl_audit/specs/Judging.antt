@@ -6,6 +6,7 @@ use Rattle.xl_ledger.specs.Limits.{greatest_limit, least_limit}
 use Rattle.xl_sched.specs.declared.refusal.SchedRefusal.{SchedRefusal}
 use Rattle.xl_sched.specs.declared.refusal.SchedRefusal.TheVariants.{OutOfMemory}
 use Rattle.xl_tags.specs.Rings.{Ring}
+use Rattle.xl_audit.specs.declared.judging.BadLine.{BadLine}
 use Rattle.xl_audit.specs.declared.judging.BadLine.TheVariants as bad
 use Rattle.xl_audit.specs.declared.judging.Stage.{Stage}
 use Rattle.xl_audit.specs.declared.judging.Stage.TheVariants.{Heading, Setting, Keying, Judging}
@@ -21,8 +22,8 @@ step_given (answer.Wrong place) stage = wrong place
 step_given (answer.Refused why) stage = refuses why
 
 -- a line is refused so, and not for lack of memory
-pub record IsRefused (why : SchedRefusal) (told : Answer) : Type 0 where
-  pub is : told ≡ answer.Refused (bad.Refused why)
+pub record IsRefused (why : SchedRefusal) (told : BadLine) : Type 0 where
+  pub is : told ≡ bad.Refused why
   pub remembered : why ≡ OutOfMemory → ⊥
 
 -- how many entries were judged

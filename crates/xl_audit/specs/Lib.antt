@@ -15,6 +15,7 @@ pub mod Auditing
 pub mod Journals
 pub mod Verdicts
 pub mod Judging
+pub mod Leading
 pub mod States
 pub mod Texts
 pub mod Stored

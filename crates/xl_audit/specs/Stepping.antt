@@ -3,11 +3,14 @@ use Rattle.std.specs.Prelude.{◌≡◌, ℕ, Bool, false, List, is_some, IsTrue
 use Rattle.std.specs.declared.option.Option.{Option}
 use Rattle.xl_core.specs.declared.event.CoreEvent.{CoreEvent}
 use Rattle.xl_core.specs.Answers.{Answer}
+use Rattle.xl_core.specs.Deeds.{answer_of}
+use Rattle.xl_core.specs.declared.core_answer.CoreAnswer.{CoreAnswer}
 use Rattle.xl_core.specs.Core.{Core, core_happens, core_asks}
 use Rattle.xl_core.specs.Replies.{Answers}
 use Rattle.xl_store.specs.declared.entry.Saved.{Saved}
 use Rattle.xl_store.specs.Entries.{save_of}
 use Rattle.xl_audit.specs.Replies.{reply_text}
+use Rattle.xl_audit.specs.Leading.{IsDeed}
 use Rattle.xl_audit.specs.Rights.{tells_of}
 
 -- what an event leaves whose save was answered so: it is known whether a save was asked, and where that can be the core
@@ -28,3 +31,8 @@ pub record RetellsAs (before : Core) (event : CoreEvent) (outcome : Option Saved
 -- so of an event that asks no save, whatever is told of one
 abbrev pub Replies : Core → CoreEvent → Core → List ℕ → Type 0
 Replies before event after text = (outcome : Option Saved) → RetellsAs before event outcome after text false
+
+-- of a deed it is told what is retold
+abbrev pub RetellsDeed : Core → CoreEvent → Option Saved → Core → CoreAnswer → Bool → Type 0
+RetellsDeed before event outcome after told was_asked =
+    IsDeed event → Retells before event outcome after (answer_of told) was_asked

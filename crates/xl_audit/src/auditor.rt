@@ -8,6 +8,7 @@ ghost use Rattle.std.specs.String.{string_bytes};
 ghost use Rattle.xl_core.specs.Core.{core_asks};
 ghost use Rattle.xl_store.specs.Entries.{IsAllowed, IsOutcome, reply_of};
 ghost use Rattle.xl_audit.specs.Laws.{written_with};
+ghost use Rattle.xl_audit.specs.Leading.{TellsDeed};
 ghost use Rattle.xl_audit.specs.Saves.{IsCounted};
 ghost use Rattle.xl_audit.specs.Rights.{IsAsked, IsRight, is_right, reply_to as reply_to_of, tells_of};
 
@@ -18,7 +19,7 @@ use crate::stepping::{AuditedCore, ROOM, reply_to};
 use std::alloc::Global;
 use std::marker::Model;
 use xl_base::{Millis, OutOfMemory, Seq};
-use xl_core::{Core, Settings};
+use xl_core::{Core, CoreAnswer, Settings};
 use xl_store::{Entry, Saved};
 use xl_tags::Keys;
 
@@ -60,8 +61,15 @@ impl Auditor {
         Ok(Auditor { alloc, core, piece })
     }
 
+    /// The core after the entries so far, which were right.
+    pub fn core(&self) -> &AuditedCore
+        ensures { result.now ≡ self.now }
+    {
+        &self.core
+    }
+
     /// The keys of the core's peers.
-    pub(crate) fn keys(&self) -> &Keys
+    pub fn keys(&self) -> &Keys
         ensures { result.now ≡ self.now.node.keys }
     {
         self.core.node().keys()
@@ -76,6 +84,7 @@ impl Auditor {
     {
         let mut keeper = EntryKeeper::of(entry.outcome);
         let mut text = String::new(self.alloc);
+        let mut answer = CoreAnswer::Done;
         reply_to(
             self.alloc,
             &mut *self.core,
@@ -83,6 +92,7 @@ impl Auditor {
             &mut keeper,
             &mut self.piece,
             &mut text,
+            &mut answer,
         )?;
         Ok(text)
     }
@@ -95,15 +105,23 @@ impl Auditor {
         ensures right { IfOk result (λ right. IsTrue right ↔ IsRight self.old written.now) }
         ensures core { IfOk result (λ right. IsTrue right → self.new ≡ (reply_of self.old written.now.entry).core) }
     {
-        self.judge(&written.entry, written.reply.as_slice())
+        let mut answer = CoreAnswer::Done;
+        self.judge(&written.entry, written.reply.as_slice(), &mut answer)
     }
 
-    /// Whether an entry with this reply is right.
-    pub(crate) fn judge(&mut self, entry: &Entry, reply: &[u8]) -> Result<bool, OutOfMemory>
+    /// Whether an entry with this reply is right. If it is, what the core answers is put into `answer`, except for
+    /// what it hands out.
+    pub fn judge(
+        &mut self,
+        entry: &Entry,
+        reply: &[u8],
+        answer: &mut CoreAnswer,
+    ) -> Result<bool, OutOfMemory>
         requires allowed { IsAllowed self.old entry.now.event }
         requires counted { IsCounted entry.now.outcome }
         ensures value { IfOk result (λ right. right ≡ is_right self.old (written_with entry.now reply.now)) }
         ensures core { IfOk result (λ right. IsTrue right → self.new ≡ (reply_of self.old entry.now).core) }
+        ensures told { IfOk result (λ right. IsTrue right → TellsDeed self.old entry.now answer.new) }
     {
         let mut keeper = EntryKeeper::of(entry.outcome);
         let mut text = Compared::with(self.alloc, reply);
@@ -114,6 +132,7 @@ impl Auditor {
             &mut keeper,
             &mut self.piece,
             &mut text,
+            answer,
         )?;
         Ok(tells_of(keeper.was_asked(), &entry.outcome) && text.is(reply))
     }

@@ -1,16 +1,17 @@
 // The machine of `xl audit`.
-ghost use Rattle.std.specs.Prelude.{◌≡◌, ◌+◌, ◌<◌, ◌≤◌, ◌^◌, None, IfOk, OnErr, OnOk, length};
-ghost use Rattle.xl_audit.specs.Auditing.{entry_step, judging_step, keying_step, opening_step, step};
+ghost use Rattle.std.specs.Prelude.{◌≡◌, ℕ, ◌+◌, ◌<◌, ◌≤◌, ◌^◌, None, IfOk, OnErr, OnOk, length};
+ghost use Rattle.xl_audit.specs.Auditing.{step};
 ghost use Rattle.xl_audit.specs.declared.judging.Stage.TheVariants.{Judging};
 ghost use Rattle.xl_audit.specs.Judging.{IsReady, IsReady-prop, MayOpen, entries_of, step_given};
+ghost use Rattle.xl_audit.specs.Leading.{entry_lead, judging_lead, keying_lead, lead as lead_of, lead_given, opening_lead};
 ghost use Rattle.xl_audit.specs.Opening.{core_of, unmet};
 ghost use Rattle.xl_audit.specs.Words.{tokens};
 ghost use Rattle.xl_audit.specs.Limits.{most_bytes, most_lines};
 
 use crate::Auditor;
 use crate::judging::{
-    BadLine, Stage, Step, beyond, ended, heading, judge_entry, opened, push_bad, push_no, push_yes,
-    refused, setting,
+    BadLine, Lead, Stage, Step, beyond, ended, heading, judge_read, opened, push_bad, push_no,
+    push_yes, read_entry, refused, setting,
 };
 use crate::key_ring::KeyRing;
 use crate::limits::{MOST_BYTES, MOST_LINES};
@@ -113,65 +114,70 @@ impl Machine for Judge {
 }
 
 /// The line of the first entry, where each listed member has a key.
-fn first_entry(
+fn first_entry<'a>(
     alloc: Global,
     opening: Opening,
     keys: KeyRing,
-    words: &Words<'_>,
-) -> Result<(Stage, Step), OutOfMemory>
+    words: &Words<'a>,
+) -> Result<(Stage, Lead<'a>), OutOfMemory>
     requires may { MayOpen opening keys }
     requires met { unmet keys opening.list.members ≡ None }
-    ensures step { IfOk result (λ done. step_given done.1 done.0 ≡ entry_step (core_of opening keys) 0 words.now) }
+    ensures lead { IfOk result (λ done. lead_given done.1 done.0 ≡ entry_lead (core_of opening keys) 0 words.now) }
     ensures ready { IfOk result (λ done. IsReady done.0) }
-    ensures more { IfOk result (λ done. entries_of done.0 ≤ 1) }
+    ensures none { IfOk result (λ done. entries_of done.0 ≡ 0) }
 {
-    let mut auditor = opened(alloc, opening, keys)?;
-    let mut entries = 0;
-    let step = judge_entry(alloc, &mut auditor, &mut entries, words)?;
-    Ok((Stage::Judging { auditor, entries }, step))
+    let auditor = opened(alloc, opening, keys)?;
+    let lead = read_entry(alloc, auditor.keys(), words)?;
+    Ok((
+        Stage::Judging {
+            auditor,
+            entries: 0,
+        },
+        lead,
+    ))
 }
 
 /// The line behind the keys.
-fn opening_line(
+fn opening_line<'a>(
     alloc: Global,
     opening: Opening,
     keys: KeyRing,
-    words: &Words<'_>,
-) -> Result<(Stage, Step), OutOfMemory>
+    words: &Words<'a>,
+) -> Result<(Stage, Lead<'a>), OutOfMemory>
     requires may { MayOpen opening keys }
-    ensures step { IfOk result (λ done. step_given done.1 done.0
-        ≡ opening_step opening keys (unmet keys opening.list.members) words.now) }
+    ensures lead { IfOk result (λ done. lead_given done.1 done.0
+        ≡ opening_lead opening keys (unmet keys opening.list.members) words.now) }
     ensures ready { IfOk result (λ done. IsReady done.0) }
-    ensures more { IfOk result (λ done. entries_of done.0 ≤ 1) }
+    ensures none { IfOk result (λ done. entries_of done.0 ≡ 0) }
 {
     match unmet(keys.keys(), &opening.list) {
         Some(member) => {
-            let step = Step::Refused(BadLine::Keyless(member));
-            Ok((Stage::Keying { opening, keys }, step))
+            let lead = Lead::Refused(BadLine::Keyless(member));
+            Ok((Stage::Keying { opening, keys }, lead))
         }
         None => first_entry(alloc, opening, keys, words),
     }
 }
 
 /// A line behind the settings, before the first entry.
-fn keying(
+fn keying<'a>(
     alloc: Global,
     opening: Opening,
     keys: KeyRing,
-    words: &Words<'_>,
-) -> Result<(Stage, Step), OutOfMemory>
+    words: &Words<'a>,
+) -> Result<(Stage, Lead<'a>), OutOfMemory>
     requires may { MayOpen opening keys }
-    ensures step { IfOk result (λ done. step_given done.1 done.0 ≡ keying_step opening keys words.now) }
+    ensures lead { IfOk result (λ done. lead_given done.1 done.0 ≡ keying_lead opening keys words.now) }
     ensures ready { IfOk result (λ done. IsReady done.0) }
-    ensures more { IfOk result (λ done. entries_of done.0 ≤ 1) }
+    ensures none { IfOk result (λ done. entries_of done.0 ≡ 0) }
 {
     let mut keys = keys;
     if words.first() == b"key".as_slice() {
         return match keys.add(words) {
-            Ok(()) => Ok((Stage::Keying { opening, keys }, Step::GoesOn)),
+            Ok(()) => Ok((Stage::Keying { opening, keys }, Lead::GoesOn)),
             Err(fault) => {
-                let step = refused(alloc, fault)?;
-                Ok((Stage::Keying { opening, keys }, step))
+                let lead = Lead::Refused(refused(alloc, fault)?);
+                Ok((Stage::Keying { opening, keys }, lead))
             }
         };
     }
@@ -179,53 +185,62 @@ fn keying(
 }
 
 /// A line behind an entry.
-fn judging(
-    alloc: Global,
-    auditor: &mut Auditor,
-    entries: &mut u64,
-    words: &Words<'_>,
-) -> Result<Step, OutOfMemory>
-    requires few { entries.old + 1 < 2 ^ 64 }
-    ensures step { IfOk result (λ done. step_given done (Judging auditor.new entries.new)
-        ≡ judging_step auditor.old entries.old words.now) }
-    ensures more { IfOk result (λ _. entries.new ≤ entries.old + 1) }
-    ensures none { OnErr result (entries.new ≡ entries.old) }
+fn judging<'a>(alloc: Global, auditor: &Auditor, words: &Words<'a>) -> Result<Lead<'a>, OutOfMemory>
+    ensures { IfOk result (λ lead. (entries : ℕ)
+        → lead_given lead (Judging auditor.now entries) ≡ judging_lead auditor.now entries words.now) }
 {
     let word = words.first();
     if word == b"key".as_slice() {
-        return refused(alloc, LineFault::with_text(Cause::Late, word));
+        let late = LineFault::with_text(Cause::Late, word);
+        return Ok(Lead::Refused(refused(alloc, late)?));
     }
-    judge_entry(alloc, auditor, entries, words)
+    read_entry(alloc, auditor.keys(), words)
 }
 
-/// What a line before the second entry leads to.
-fn opening(
+/// What a line before the first entry leads to, and the stage then.
+fn opening<'a>(
     alloc: Global,
     stage: Stage,
-    line: &[u8],
-    words: &Words<'_>,
-) -> Result<(Stage, Step), OutOfMemory>
+    line: &'a [u8],
+    words: &Words<'a>,
+) -> Result<(Stage, Lead<'a>), OutOfMemory>
     requires ready { IsReady stage }
-    requires few { entries_of stage + 1 < 2 ^ 64 }
     requires words { words.now ≡ tokens line.now }
-    ensures step { IfOk result (λ done. step_given done.1 done.0 ≡ step stage line.now) }
+    ensures lead { IfOk result (λ done. lead_given done.1 done.0 ≡ lead_of stage line.now) }
     ensures ready { IfOk result (λ done. IsReady done.0) }
-    ensures more { IfOk result (λ done. entries_of done.0 ≤ entries_of stage + 1) }
+    ensures same { IfOk result (λ done. entries_of done.0 ≡ entries_of stage) }
 {
     match stage {
         Stage::Heading => heading(alloc, line, words),
         Stage::Setting => setting(alloc, words),
         Stage::Keying { opening, keys } => keying(alloc, opening, keys, words),
         Stage::Judging { auditor, entries } => {
-            let mut auditor = auditor;
-            let mut entries = entries;
-            let step = judging(alloc, &mut auditor, &mut entries, words)?;
-            Ok((Stage::Judging { auditor, entries }, step))
+            let lead = judging(alloc, &auditor, words)?;
+            Ok((Stage::Judging { auditor, entries }, lead))
         }
     }
 }
 
-/// What the next line leads to. The core of the entries isn't moved.
+/// What the next line leads to before its entry is judged. The core of the entries isn't moved.
+pub fn lead<'a>(alloc: Global, stage: &mut Stage, line: &'a [u8]) -> Result<Lead<'a>, OutOfMemory>
+    requires ready { IsReady stage.old }
+    requires short { length line.now ≤ most_bytes }
+    ensures lead { IfOk result (λ lead. lead_given lead stage.new ≡ lead_of stage.old line.now) }
+    ensures ready { IsReady stage.new }
+    ensures same { IfOk result (λ _. entries_of stage.new ≡ entries_of stage.old) }
+    ensures none { OnErr result (entries_of stage.new ≤ entries_of stage.old) }
+{
+    let words = Words::of(line);
+    if let Stage::Judging { auditor, .. } = stage {
+        return judging(alloc, auditor, &words);
+    }
+    let taken = mem::replace(stage, Stage::Heading);
+    let (left, lead) = opening(alloc, taken, line, &words)?;
+    *stage = left;
+    Ok(lead)
+}
+
+/// What the next line leads to.
 fn next(alloc: Global, stage: &mut Stage, line: &[u8]) -> Result<Step, OutOfMemory>
     requires ready { IsReady stage.old }
     requires few { entries_of stage.old + 1 < 2 ^ 64 }
@@ -235,12 +250,9 @@ fn next(alloc: Global, stage: &mut Stage, line: &[u8]) -> Result<Step, OutOfMemo
     ensures more { IfOk result (λ _. entries_of stage.new ≤ entries_of stage.old + 1) }
     ensures none { OnErr result (entries_of stage.new ≤ entries_of stage.old) }
 {
-    let words = Words::of(line);
-    if let Stage::Judging { auditor, entries } = stage {
-        return judging(alloc, auditor, entries, &words);
+    match lead(alloc, stage, line)? {
+        Lead::GoesOn => Ok(Step::GoesOn),
+        Lead::Refused(why) => Ok(Step::Refused(why)),
+        Lead::Tells(read) => judge_read(stage, &read),
     }
-    let taken = mem::replace(stage, Stage::Heading);
-    let (left, step) = opening(alloc, taken, line, &words)?;
-    *stage = left;
-    Ok(step)
 }

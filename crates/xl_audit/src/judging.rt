@@ -1,15 +1,15 @@
 // A journal, line by line.
 ghost use Rattle.std.specs.Prelude.{◌≡◌, ◌+◌, ◌++◌, ◌<◌, ◌≤◌, ◌^◌, None, IfOk, OnErr, OnOk, decimal};
 ghost use Rattle.std.specs.String.{string_bytes};
-ghost use Rattle.xl_audit.specs.Auditing.{bad_line, bad_text, beyond, ended, heading_step, judged, no_line, set, yes_line};
+ghost use Rattle.xl_audit.specs.Auditing.{bad_line, bad_text, beyond, ended, heading_step, no_line, set, yes_line};
 ghost use Rattle.xl_audit.specs.Judging.{IsReady, IsRefused, MayOpen, entries_of, step_given};
-ghost use Rattle.xl_audit.specs.declared.judging.Stage.TheVariants.{Judging};
+ghost use Rattle.xl_audit.specs.Leading.{IsAskedAt, judged_at, lead_given, leads, read_lead};
 ghost use Rattle.xl_audit.specs.Opening.{core_of, opening_in, unmet};
 ghost use Rattle.xl_audit.specs.Reading.{entry_in};
 ghost use Rattle.xl_audit.specs.Words.{tokens};
 
 use crate::Auditor;
-use crate::entries::entry;
+use crate::entries::{ReadEntry, entry};
 use crate::key_ring::KeyRing;
 use crate::limits::{MOST_BYTES, MOST_LINES};
 use crate::opening::{Opening, read_opening, unmet};
@@ -17,9 +17,10 @@ use crate::words::Words;
 use std::alloc::Global;
 use std::fmt::Write;
 use xl_base::{Bytes, NodeNo, OutOfMemory};
-use xl_core::Settings;
+use xl_core::{CoreAnswer, Settings};
 use xl_lines::Overrun;
 use xl_sched::{Cause, LineFault, SchedRefusal, printed_token};
+use xl_tags::Keys;
 
 /// How far a journal has come.
 #[derive(Drop)]
@@ -51,68 +52,94 @@ pub enum Step {
     Refused(BadLine),
 }
 
+/// What a line leads to before its entry is judged.
+#[derive(Drop)]
+pub enum Lead<'a> {
+    /// It tells no entry, and is in order.
+    GoesOn,
+    Refused(BadLine),
+    /// It tells this entry.
+    Tells(ReadEntry<'a>),
+}
+
 /// A line is refused.
-pub fn refused(alloc: Global, fault: LineFault<'_>) -> Result<Step, OutOfMemory>
+pub fn refused(alloc: Global, fault: LineFault<'_>) -> Result<BadLine, OutOfMemory>
     ensures { IfOk result (IsRefused fault.entry) }
 {
     match fault.refusal(alloc) {
         SchedRefusal::OutOfMemory => Err(OutOfMemory),
-        refusal => Ok(Step::Refused(BadLine::Refused(refusal))),
+        refusal => Ok(BadLine::Refused(refusal)),
     }
 }
 
 /// Line 1.
-pub fn heading(alloc: Global, line: &[u8], words: &Words<'_>) -> Result<(Stage, Step), OutOfMemory>
+pub fn heading<'a>(
+    alloc: Global,
+    line: &[u8],
+    words: &Words<'_>,
+) -> Result<(Stage, Lead<'a>), OutOfMemory>
     requires { words.now ≡ tokens line.now }
-    ensures step { IfOk result (λ done. step_given done.1 done.0 ≡ heading_step line.now) }
+    ensures lead { IfOk result (λ done. lead_given done.1 done.0 ≡ leads (heading_step line.now)) }
     ensures ready { IfOk result (λ done. IsReady done.0) }
     ensures none { IfOk result (λ done. entries_of done.0 ≡ 0) }
 {
     if line == b"xl-journal 1".as_slice() {
-        return Ok((Stage::Setting, Step::GoesOn));
+        return Ok((Stage::Setting, Lead::GoesOn));
     }
-    let step = refused(alloc, LineFault::with_text(Cause::Header, words.first()))?;
-    Ok((Stage::Heading, step))
+    let why = refused(alloc, LineFault::with_text(Cause::Header, words.first()))?;
+    Ok((Stage::Heading, Lead::Refused(why)))
 }
 
 /// The line of the settings.
-pub fn setting(alloc: Global, words: &Words<'_>) -> Result<(Stage, Step), OutOfMemory>
-    ensures step { IfOk result (λ done. step_given done.1 done.0 ≡ set (opening_in words.now)) }
+pub fn setting<'a>(alloc: Global, words: &Words<'_>) -> Result<(Stage, Lead<'a>), OutOfMemory>
+    ensures lead { IfOk result (λ done. lead_given done.1 done.0 ≡ leads (set (opening_in words.now))) }
     ensures ready { IfOk result (λ done. IsReady done.0) }
     ensures none { IfOk result (λ done. entries_of done.0 ≡ 0) }
 {
     match read_opening(alloc, words) {
         Ok(opening) => {
             let keys = KeyRing::new(alloc, opening.me)?;
-            Ok((Stage::Keying { opening, keys }, Step::GoesOn))
+            Ok((Stage::Keying { opening, keys }, Lead::GoesOn))
         }
-        Err(fault) => Ok((Stage::Setting, refused(alloc, fault)?)),
+        Err(fault) => Ok((Stage::Setting, Lead::Refused(refused(alloc, fault)?))),
     }
 }
 
-/// The line of an entry, which is counted if it is right.
-pub fn judge_entry(
+/// The line of an entry.
+pub fn read_entry<'a>(
     alloc: Global,
-    auditor: &mut Auditor,
-    entries: &mut u64,
-    words: &Words<'_>,
-) -> Result<Step, OutOfMemory>
-    requires few { entries.old + 1 < 2 ^ 64 }
-    ensures step { IfOk result (λ done. step_given done (Judging auditor.new entries.new)
-        ≡ judged auditor.old entries.old (entry_in auditor.old.node.keys words.now)) }
-    ensures more { IfOk result (λ _. entries.new ≤ entries.old + 1) }
-    ensures none { OnErr result (entries.new ≡ entries.old) }
+    keys: &Keys,
+    words: &Words<'a>,
+) -> Result<Lead<'a>, OutOfMemory>
+    ensures { IfOk result (λ lead. (stage : Stage)
+        → lead_given lead stage ≡ read_lead stage (entry_in keys.now words.now)) }
 {
-    match entry(alloc, auditor.keys(), words) {
-        Ok(read) => {
-            if auditor.judge(&read.entry, read.reply)? {
+    match entry(alloc, keys, words) {
+        Ok(read) => Ok(Lead::Tells(read)),
+        Err(fault) => Ok(Lead::Refused(refused(alloc, fault)?)),
+    }
+}
+
+/// An entry is judged, and counted if it is right.
+pub fn judge_read(stage: &mut Stage, read: &ReadEntry<'_>) -> Result<Step, OutOfMemory>
+    requires asked { IsAskedAt stage.old read.now }
+    requires few { entries_of stage.old + 1 < 2 ^ 64 }
+    ensures step { IfOk result (λ step. step_given step stage.new ≡ judged_at stage.old read.now) }
+    ensures ready { IsReady stage.old → IsReady stage.new }
+    ensures more { IfOk result (λ _. entries_of stage.new ≤ entries_of stage.old + 1) }
+    ensures none { OnErr result (entries_of stage.new ≤ entries_of stage.old) }
+{
+    match stage {
+        Stage::Judging { auditor, entries } => {
+            let mut answer = CoreAnswer::Done;
+            if auditor.judge(&read.entry, read.reply, &mut answer)? {
                 *entries += 1;
                 Ok(Step::GoesOn)
             } else {
                 Ok(Step::Wrong(*entries + 1))
             }
         }
-        Err(fault) => refused(alloc, fault),
+        _ => Ok(Step::GoesOn),
     }
 }
 

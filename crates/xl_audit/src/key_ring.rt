@@ -34,6 +34,14 @@ impl KeyRing {
         Ok(KeyRing { keys })
     }
 
+    /// The same keys as these.
+    pub fn copy_of(alloc: Global, keys: &Keys) -> Result<KeyRing, OutOfMemory>
+        ensures { IfOk result (λ ring. ring ≡ keys.now) }
+    {
+        let keys = Box::new(alloc, keys.copy())?;
+        Ok(KeyRing { keys })
+    }
+
     pub fn keys(&self) -> &Keys
         ensures { result.now ≡ self.now }
     {

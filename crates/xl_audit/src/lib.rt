@@ -33,7 +33,13 @@ mod written;
 
 pub use auditor::Auditor;
 pub use command::Audit;
+pub use entries::ReadEntry;
+pub use judge::lead;
+pub use judging::{BadLine, Lead, Stage, Step, beyond, ended, push_bad};
+pub use key_ring::KeyRing;
 pub use laws::{legal_is_right, right_is_legal, whole_texts, written_gets_yes, yes_and_no};
 pub use limits::{MOST_BYTES, MOST_LINES};
+pub use opening::Opening;
+pub use stepping::AuditedCore;
 pub use writing::write_journal;
 pub use written::Written;

@@ -4,13 +4,13 @@ ghost use Rattle.xl_base.specs.Moments.{greatest_millis};
 ghost use Rattle.xl_tags.specs.Rings.{key_of};
 ghost use Rattle.xl_wire.specs.Lengths.{longest_frame};
 ghost use Rattle.xl_core.specs.Core.{all_frames, drained};
-ghost use Rattle.xl_core.specs.Deeds.{MayHappen, event_for};
+ghost use Rattle.xl_core.specs.Deeds.{MayHappen, answer_of, event_for};
 ghost use Rattle.xl_core.specs.Queues.{frames_in};
 ghost use Rattle.xl_core.specs.declared.event.CoreEvent.TheVariants.{Drain, Reports};
 ghost use Rattle.xl_store.specs.Entries.{IsAllowed};
 ghost use Rattle.xl_audit.specs.Pieces.{bytes_given, handed_out};
 ghost use Rattle.xl_audit.specs.Saves.{IsFresh};
-ghost use Rattle.xl_audit.specs.Stepping.{RetellsAs, Replies};
+ghost use Rattle.xl_audit.specs.Stepping.{Retells, RetellsAs, RetellsDeed, Replies};
 
 use crate::replies::{push_answer, push_bytes, push_reports};
 use crate::reply_text::ReplyText;
@@ -43,16 +43,18 @@ fn reply_to_deed<T: ReplyText>(
     deed: &Deed<'_>,
     keeper: &mut EntryKeeper,
     text: &mut T,
+    answer: &mut CoreAnswer,
 ) -> Result<(), OutOfMemory>
     requires may { MayHappen core.old deed.now }
     requires fresh { IsFresh keeper.old }
     requires text { T.told text.old ≡ [] }
-    ensures { OnOk result (RetellsAs core.old (event_for core.old deed.now) keeper.old.answer
+    ensures text { OnOk result (RetellsAs core.old (event_for core.old deed.now) keeper.old.answer
         core.new (T.told text.new) keeper.new.asked) }
+    ensures told { Retells core.old (event_for core.old deed.now) keeper.old.answer
+        core.new (answer_of answer.new) keeper.new.asked }
 {
-    let mut answer = CoreAnswer::Done;
-    core.happen(deed, keeper, &mut answer);
-    push_answer(alloc, text, &answer)
+    core.happen(deed, keeper, answer);
+    push_answer(alloc, text, answer)
 }
 
 /// The first so many bytes.
@@ -195,7 +197,7 @@ fn reply_to_reports<T: ReplyText>(
 }
 
 /// Something happens at the core, under a keeper that answers a save as an entry tells. The text of the reply is put
-/// into `text`, and what waits is drained by way of `piece`.
+/// into `text`, and what is told of a deed into `answer`; what waits is drained by way of `piece`.
 pub fn reply_to<T: ReplyText>(
     alloc: Global,
     core: &mut AuditedCore,
@@ -203,12 +205,15 @@ pub fn reply_to<T: ReplyText>(
     keeper: &mut EntryKeeper,
     piece: &mut [u8; ROOM],
     text: &mut T,
+    answer: &mut CoreAnswer,
 ) -> Result<(), OutOfMemory>
     requires allowed { IsAllowed core.old event.now }
     requires fresh { IsFresh keeper.old }
     requires text { T.told text.old ≡ [] }
-    ensures { OnOk result (RetellsAs core.old event.now keeper.old.answer
+    ensures text { OnOk result (RetellsAs core.old event.now keeper.old.answer
         core.new (T.told text.new) keeper.new.asked) }
+    ensures told { OnOk result (RetellsDeed core.old event.now keeper.old.answer
+        core.new answer.new keeper.new.asked) }
 {
     match event {
         CoreEvent::Issue { now, seq, id, full } => {
@@ -218,31 +223,45 @@ pub fn reply_to<T: ReplyText>(
                 id: *id,
                 full: *full,
             };
-            reply_to_deed(alloc, core, &deed, keeper, text)
+            reply_to_deed(alloc, core, &deed, keeper, text, answer)
         }
         CoreEvent::Frame { now, bytes } => {
             let deed = Deed::Frame {
                 now: *now,
                 bytes: bytes.as_slice(),
             };
-            reply_to_deed(alloc, core, &deed, keeper, text)
+            reply_to_deed(alloc, core, &deed, keeper, text, answer)
         }
         CoreEvent::Timer { now } => {
-            reply_to_deed(alloc, core, &Deed::Timer { now: *now }, keeper, text)
+            reply_to_deed(
+                alloc,
+                core,
+                &Deed::Timer { now: *now },
+                keeper,
+                text,
+                answer,
+            )
         }
         CoreEvent::Submit { now, tx } => {
             let deed = Deed::Submit { now: *now, tx: *tx };
-            reply_to_deed(alloc, core, &deed, keeper, text)
+            reply_to_deed(alloc, core, &deed, keeper, text, answer)
         }
         CoreEvent::Relist { now, list } => {
             let deed = Deed::Relist { now: *now, list };
-            reply_to_deed(alloc, core, &deed, keeper, text)
+            reply_to_deed(alloc, core, &deed, keeper, text, answer)
         }
         CoreEvent::Greet { member } => {
-            reply_to_deed(alloc, core, &Deed::Greet { member: *member }, keeper, text)
+            reply_to_deed(
+                alloc,
+                core,
+                &Deed::Greet { member: *member },
+                keeper,
+                text,
+                answer,
+            )
         }
-        CoreEvent::Stop => reply_to_deed(alloc, core, &Deed::Stop, keeper, text),
-        CoreEvent::Stopped => reply_to_deed(alloc, core, &Deed::Stopped, keeper, text),
+        CoreEvent::Stop => reply_to_deed(alloc, core, &Deed::Stop, keeper, text, answer),
+        CoreEvent::Stopped => reply_to_deed(alloc, core, &Deed::Stopped, keeper, text, answer),
         CoreEvent::Drain { member, room } => {
             reply_to_drain(alloc, core, *member, *room, piece, text)
         }

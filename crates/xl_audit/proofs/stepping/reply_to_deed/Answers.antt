@@ -1,9 +1,14 @@
 use Rattle.xl_core.specs.Deeds.{event_for}
-use Rattle.xl_audit.proofs.Telling.{happened_ok}
+use Rattle.xl_audit.proofs.Telling.{happened_ok, happened_so}
 use Rattle.xl_audit.proofs.stepping.reply_to_deed.Goals as goal
 
-pub returns : goal.returns
-returns g c =
+pub returns-clause-text : goal.returns-clause-text
+returns-clause-text g c =
     happened_ok c.push_answer.result c.args.core.now c.happen.new.self (event_for c.args.core.now c.args.deed.now)
     c.happen.new.answer c.args.keeper.now c.happen.new.keeper (g.T.ReplyText.told c.args.text.now)
     (g.T.ReplyText.told c.push_answer.new.text) c.requires.fresh c.happen.ensures c.requires.text c.push_answer.ensures
+
+pub returns-clause-told : goal.returns-clause-told
+returns-clause-told g c =
+    happened_so c.args.core.now c.happen.new.self (event_for c.args.core.now c.args.deed.now) c.happen.new.answer
+    c.args.keeper.now c.happen.new.keeper c.requires.fresh c.happen.ensures
