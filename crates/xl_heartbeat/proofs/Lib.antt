@@ -2,3 +2,4 @@ pub mod Writing
 pub mod Pulses
 pub mod SameLists
 pub mod Firsts
+pub mod Telling

@@ -4,4 +4,5 @@ pub mod Outputs
 pub mod Relisting
 pub mod Beats
 pub mod Statuses
+pub mod Bulletins
 pub mod Going

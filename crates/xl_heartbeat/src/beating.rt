@@ -1,18 +1,23 @@
 ghost use Rattle.std.specs.Prelude.{◌≡◌};
+ghost use Rattle.std.specs.declared.option.Option.{Option};
 ghost use Rattle.xl_turns.specs.declared.view.Knowledge.{Knowledge};
 ghost use Rattle.xl_turns.specs.Passes.{known};
 ghost use Rattle.xl_store.specs.declared.entry.Entry.{Entry};
 ghost use Rattle.xl_store.specs.Stores.{start_of, turns_of, IsOf};
 ghost use Rattle.xl_heartbeat.specs.Outputs.{Output, output};
+ghost use Rattle.xl_heartbeat.specs.declared.bulletin.Bulletin.{Bulletin as TheBulletin};
+ghost use Rattle.xl_heartbeat.specs.Bulletins.{ToldIf};
 ghost use Rattle.xl_heartbeat.specs.Beats.{Heartbeat};
 ghost use Rattle.xl_heartbeat.specs.Beats.Phase.{Beats};
 ghost use Rattle.xl_heartbeat.specs.Going.{Beating, Follows, Stops};
 
+use crate::Bulletin;
 use crate::ends::{BeatEnd, Ending, Stopping, after_reports, ending_of};
 use crate::pulse::Pulse;
 use crate::relisting::relist_at;
-use crate::reporting::take_reports;
+use crate::reporting::take_and_tell;
 use std::sync::Wait;
+use xl_board::{Board, MemBoard};
 use xl_io::{Keeper, Sink};
 use xl_ledger::Branch;
 use xl_links::Clock;
@@ -42,37 +47,91 @@ pub fn beat<W: Wait, B: Branch + Drop, K: Keeper + Drop, O: Sink, C: Clock>(
         (known pass.old) (output (O.held sink.old) (O.faults sink.old)) result
         (known pass.new) (output (O.held sink.new) (O.faults sink.new)) }
 {
-    let mut set = pulse.list.copy();
+    let untold: Option<Bulletin<MemBoard>> = None;
+    beat_and_tell(rt, store, clock, sink, pulse, untold, pass).end
+}
+
+/// What a heartbeat leaves.
+#[derive(Drop)]
+pub struct BeatLeft<D> {
+    pub end: BeatEnd,
+    pub bulletin: Option<Bulletin<D>>,
+}
+
+/// What goes along with the beats: the list that was set last, and the bulletin.
+#[derive(Drop)]
+struct Progress<D> {
+    set: List,
+    bulletin: Option<Bulletin<D>>,
+}
+
+/// Beats as `beat` does, and tells on the bulletin each ten seconds how the node is. That takes no turn more: the core is
+/// looked at in the turn in which reports are taken.
+pub fn beat_and_tell<
+    W: Wait,
+    B: Branch + Drop,
+    K: Keeper + Drop,
+    O: Sink,
+    C: Clock,
+    D: Board + Drop,
+>(
+    rt: &W,
+    store: &Store<B, K>,
+    clock: &C,
+    sink: &mut O,
+    pulse: &Pulse,
+    bulletin: Option<Bulletin<D>>,
+    pass: &mut Pass,
+) -> BeatLeft<D>
+    requires pass { IsOf store.now pass.old }
+    ensures pass { IsOf store.now pass.new }
+    ensures heartbeat { Heartbeat (start_of store.now) (turns_of store.now) (C.may_give clock.now) pulse.now
+        (known pass.old) (output (O.held sink.old) (O.faults sink.old)) result.end
+        (known pass.new) (output (O.held sink.new) (O.faults sink.new)) }
+    // What the board was handed is the texts of how the core was, at places of the history, and nothing else.
+    ensures told { ToldIf D.show_gives (start_of store.now) bulletin (known pass.new).seen result.bulletin }
+{
+    let mut progress = Progress {
+        set: pulse.list.copy(),
+        bulletin,
+    };
     for _ in rt.forever() {
-        if let Some(run) = beat_once(rt, store, clock, sink, pulse, &mut set, pass) {
+        if let Some(run) = beat_once(rt, store, clock, sink, pulse, &mut progress, pass) {
             let stop = tell_to_stop(rt, store, clock, pass);
-            return BeatEnd { run, stop };
+            let Progress { set: _, bulletin } = progress;
+            return BeatLeft {
+                end: BeatEnd { run, stop },
+                bulletin,
+            };
         }
     }
     unreachable!()
 }
 
 /// One beat, and why it was the last, if it was. The publishers' list is set before the timer, which counts by it.
-fn beat_once<W: Wait, B: Branch + Drop, K: Keeper + Drop, O: Sink, C: Clock>(
+fn beat_once<W: Wait, B: Branch + Drop, K: Keeper + Drop, O: Sink, C: Clock, D: Board + Drop>(
     rt: &W,
     store: &Store<B, K>,
     clock: &C,
     sink: &mut O,
     pulse: &Pulse,
-    set: &mut List,
+    progress: &mut Progress<D>,
     pass: &mut Pass,
 ) -> Option<Ending>
     requires pass { IsOf store.now pass.old }
     ensures pass { IsOf store.now pass.new }
     ensures follows { (k : Knowledge Entry) (o : Output)
-        → Beating (start_of store.now) (C.may_give clock.now) pulse.now k o (Beats set.old)
+        → Beating (start_of store.now) (C.may_give clock.now) pulse.now k o (Beats progress.old.set)
         (known pass.old) (output (O.held sink.old) (O.faults sink.old))
-        → Follows (start_of store.now) (turns_of store.now) (C.may_give clock.now) pulse.now k o set.new result
+        → Follows (start_of store.now) (turns_of store.now) (C.may_give clock.now) pulse.now k o progress.new.set result
         (known pass.new) (output (O.held sink.new) (O.faults sink.new)) }
+    ensures told { (first : Option (TheBulletin D))
+        → ToldIf D.show_gives (start_of store.now) first (known pass.old).seen progress.old.bulletin
+        → ToldIf D.show_gives (start_of store.now) first (known pass.new).seen progress.new.bulletin }
 {
     clock.wait(pulse.timing.every);
     let now = clock.now();
-    match relist_at(rt, store, &pulse.publishing, set, now, pass) {
+    match relist_at(rt, store, &pulse.publishing, &mut progress.set, now, pass) {
         Ok(()) => {}
         Err(end) => return Some(ending_of(end)),
     }
@@ -80,7 +139,7 @@ fn beat_once<W: Wait, B: Branch + Drop, K: Keeper + Drop, O: Sink, C: Clock>(
         Ok(_) => {}
         Err(end) => return Some(ending_of(end)),
     }
-    let taken = take_reports(rt, store, sink, pass);
+    let taken = take_and_tell(rt, store, sink, &mut progress.bulletin, now, pass);
     after_reports(taken, pulse.timing.is_over(now))
 }
 

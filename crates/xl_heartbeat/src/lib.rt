@@ -4,14 +4,17 @@
 //! Each beat waits and takes the clock's moment. If the publishers have another list then than the one last set, it is
 //! set first. The store then has its timer, and the reports are taken and a line written for each. Beats come until the
 //! time of the run is over, a write fails, memory runs out or the store is full; then the heartbeat tells the store that
-//! the node is to stop. When all workers have ended, the last reports are taken and written.
+//! the node is to stop. When all workers have ended, the last reports are taken and written. On a bulletin, if there is
+//! one, a heartbeat tells each ten seconds how the node is.
 //!
-//! It stands on the store of xl_store, the publishers of xl_publish, the clock of xl_links and the sinks of xl_io. Its
-//! one contract: the calls, which stand in the store's history at the places that the pass gained, are those of beats
-//! and of one stop. What was written is the lines of the reports that they handed out, and each end has its cause.
+//! It stands on the store of xl_store, the publishers of xl_publish, the clock of xl_links, the sinks of xl_io, the
+//! boards of xl_board and the texts of xl_status. Its one contract: the calls, which stand in the store's history at the
+//! places that the pass gained, are those of beats and of one stop. What was written is the lines of the reports that
+//! they handed out, and each end has its cause. What was told is how the core was at places of that history.
 #![tactic(auto)]
 
 mod beating;
+mod bulletin;
 mod ends;
 mod lines;
 mod pulse;
@@ -21,7 +24,8 @@ mod room;
 mod status;
 mod timing;
 
-pub use beating::beat;
+pub use beating::{BeatLeft, beat, beat_and_tell};
+pub use bulletin::Bulletin;
 pub use ends::{BeatEnd, Ending, Stopping};
 pub use pulse::Pulse;
 pub use reporting::take_reports;

@@ -1,14 +1,20 @@
-ghost use Rattle.std.specs.Prelude.{◌≡◌};
+ghost use Rattle.std.specs.Prelude.{◌≡◌, ◌≤◌};
+ghost use Rattle.std.specs.declared.option.Option.{Option};
+ghost use Rattle.xl_base.specs.Moments.{greatest_millis};
 ghost use Rattle.xl_turns.specs.Passes.{known};
 ghost use Rattle.xl_store.specs.Stores.{start_of, turns_of, IsOf};
 ghost use Rattle.xl_heartbeat.specs.Outputs.{output};
+ghost use Rattle.xl_heartbeat.specs.declared.bulletin.Bulletin.{Bulletin as TheBulletin};
 ghost use Rattle.xl_heartbeat.specs.Beats.{TakesReports};
+ghost use Rattle.xl_heartbeat.specs.Bulletins.{Told, ToldIf};
 
+use crate::Bulletin;
 use crate::ends::{Ending, ending_of};
 use crate::lines::write_reports;
 use crate::room::ROOM;
 use std::sync::Wait;
-use xl_base::LedgerId;
+use xl_base::{LedgerId, Millis};
+use xl_board::Board;
 use xl_core::Report;
 use xl_io::{Keeper, Sink};
 use xl_ledger::Branch;
@@ -43,6 +49,66 @@ pub fn take_reports<W: Wait, B: Branch + Drop, K: Keeper + Drop, O: Sink>(
             Ok(()) => Ending::Done,
             Err(_) => Ending::WriteFault,
         },
+        Err(end) => ending_of(end),
+    }
+}
+
+/// Takes the reports as `take_reports` does, and tells how the node is then, if that is due.
+pub(crate) fn take_and_tell<W: Wait, B: Branch + Drop, K: Keeper + Drop, O: Sink, D: Board>(
+    rt: &W,
+    store: &Store<B, K>,
+    sink: &mut O,
+    bulletin: &mut Option<Bulletin<D>>,
+    now: Millis,
+    pass: &mut Pass,
+) -> Ending
+    requires pass { IsOf store.now pass.old }
+    requires moment { now ≤ greatest_millis }
+    ensures pass { IsOf store.now pass.new }
+    ensures takes { TakesReports (start_of store.now) (turns_of store.now)
+        (known pass.old) (output (O.held sink.old) (O.faults sink.old)) result
+        (known pass.new) (output (O.held sink.new) (O.faults sink.new)) }
+    ensures told { (first : Option (TheBulletin D))
+        → ToldIf D.show_gives (start_of store.now) first (known pass.old).seen bulletin.old
+        → ToldIf D.show_gives (start_of store.now) first (known pass.new).seen bulletin.new }
+{
+    match bulletin {
+        Some(bulletin) => tell_too(rt, store, sink, bulletin, now, pass),
+        None => take_reports(rt, store, sink, pass),
+    }
+}
+
+/// The same on a bulletin. Without a turn nothing is told.
+fn tell_too<W: Wait, B: Branch + Drop, K: Keeper + Drop, O: Sink, D: Board>(
+    rt: &W,
+    store: &Store<B, K>,
+    sink: &mut O,
+    bulletin: &mut Bulletin<D>,
+    now: Millis,
+    pass: &mut Pass,
+) -> Ending
+    requires pass { IsOf store.now pass.old }
+    requires moment { now ≤ greatest_millis }
+    ensures pass { IsOf store.now pass.new }
+    ensures takes { TakesReports (start_of store.now) (turns_of store.now)
+        (known pass.old) (output (O.held sink.old) (O.faults sink.old)) result
+        (known pass.new) (output (O.held sink.new) (O.faults sink.new)) }
+    ensures told { (first : TheBulletin D)
+        → Told D.show_gives (start_of store.now) first (known pass.old).seen bulletin.old
+        → Told D.show_gives (start_of store.now) first (known pass.new).seen bulletin.new }
+{
+    if !bulletin.is_due(now) {
+        return take_reports(rt, store, sink, pass);
+    }
+    let mut room = [BLANK; ROOM];
+    match store.reports_and_status(rt, pass, &mut room) {
+        Ok((count, status)) => {
+            bulletin.tell(&status, now);
+            match write_reports(sink, &room[..count]) {
+                Ok(()) => Ending::Done,
+                Err(_) => Ending::WriteFault,
+            }
+        }
         Err(end) => ending_of(end),
     }
 }

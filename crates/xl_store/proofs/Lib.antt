@@ -5,3 +5,4 @@ pub mod Keeping
 pub mod Kept
 pub mod Noting
 pub mod Turning
+pub mod Filling

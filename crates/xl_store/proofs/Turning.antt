@@ -12,7 +12,7 @@ use Rattle.xl_turns.specs.Passes.{known, knows, opening}
 use Rattle.xl_io.specs.Keepers.{Held}
 use Rattle.xl_core.specs.declared.event.CoreEvent.{CoreEvent}
 use Rattle.xl_core.specs.Answers.{Answer}
-use Rattle.xl_core.specs.Core.{core_happens, core_asks}
+use Rattle.xl_core.specs.Core.{Core, core_happens, core_asks}
 use Rattle.xl_core.specs.Node.{Save, is_kept}
 use Rattle.xl_core.specs.Issuing.Save.{Kept}
 use Rattle.xl_core.specs.Keeping.{IsAsked}
@@ -26,6 +26,8 @@ use Rattle.xl_store.specs.declared.store.Store.{Store}
 use Rattle.xl_store.specs.Entries.{IsAllowed, IsOutcome, Leads, entry_of, page_of, save_of, reply_of}
 use Rattle.xl_store.specs.Homes.{IsCounted, Goes, AnswersHome, LeadsHome}
 use Rattle.xl_store.specs.Stores.{start_of, Begun, Called}
+use Rattle.xl_turns.proofs.JournalSteps.{runs_more}
+use Rattle.xl_store.proofs.Journals.{after_all, after_runs}
 use Rattle.xl_store.proofs.Keeping.{cores_run}
 use Rattle.xl_store.proofs.Making.{made_one}
 use Rattle.xl_store.proofs.Noting.{outcome_with, is_outcome}
@@ -104,6 +106,18 @@ module _ {B K : Type 0}
       (subst (λ (r : Ring). IsSome (key_of r member))
       (sym (peers_stay (start_of store) turn.object.value.core turn.journal
       (cores_run held_by saves_of faults_of gives (opening store.lock) turn.object turn.journal b.found))) peer)
+
+  -- the core after all that the pass has then seen is the one that the turn's entry leads to
+  pub core_then : (store : Store B K) (old : Pass Entry) (event : CoreEvent) (turn : Turn (Box (Home B K)) Entry)
+      (page : Page) (seen : List Entry) (entry : Entry) (after : Core)
+      → Begun held_by saves_of faults_of gives store old event turn page
+      → Leads turn.object.value.core entry after → seen ≡ turn.journal ++ entry ∷ []
+      → after_all (start_of store) seen ≡ after
+  core_then store old event turn page seen entry after b leads is =
+      ap (after_all (start_of store)) is
+      ∙ after_runs (start_of store) after (turn.journal ++ entry ∷ [])
+      (runs_more Leads (start_of store) turn.object.value.core after turn.journal entry
+      (cores_run held_by saves_of faults_of gives (opening store.lock) turn.object turn.journal b.found) leads)
 
   pub called : (store : Store B K) (old new : Pass Entry) (event : CoreEvent) (outcome : Option Saved) (answer : Answer)
       (turn : Turn (Box (Home B K)) Entry) (page : Page) (done : List Entry) (found : Home B K) → found ≡ turn.object.value

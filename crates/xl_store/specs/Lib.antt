@@ -5,3 +5,4 @@ pub mod Homes
 pub mod Calls
 pub mod Stores
 pub mod Closing
+pub mod Statuses

@@ -15,13 +15,14 @@ use Rattle.xl_core.specs.declared.event.CoreEvent.TheVariants.{Drain, Reports}
 use Rattle.xl_core.specs.declared.report.Report.{Report}
 use Rattle.xl_core.specs.Answers.{Answer, Gave, Handed}
 use Rattle.xl_core.specs.Core.{Core}
+use Rattle.xl_core.specs.CoreLives.{core_after}
 use Rattle.xl_core.specs.Queues.{joined}
 use Rattle.xl_store.specs.declared.entry.Entry.{Entry}
 use Rattle.xl_store.specs.declared.home.Home.{Home}
 use Rattle.xl_store.specs.declared.store.Store.{Store}
 use Rattle.xl_store.specs.declared.store.StoreEnd.{StoreEnd}
 use Rattle.xl_store.specs.declared.store.StoreEnd.TheVariants.{OutOfMemory, StoreFull}
-use Rattle.xl_store.specs.Entries.{Leads, page_of}
+use Rattle.xl_store.specs.Entries.{Leads, life_of, page_of}
 use Rattle.xl_store.specs.declared.page.Page.{Page}
 use Rattle.xl_store.specs.Pages.{on, has_node}
 use Rattle.xl_store.specs.Homes.{Goes, LeadsHome}
@@ -43,6 +44,10 @@ module _ {B K : Type 0} where
   -- whether it keeps its entries
   abbrev pub keeps_of : Store B K → Bool
   keeps_of store = store.keeps
+
+  -- the core after all that a pass of the store has seen
+  abbrev pub core_seen : Store B K → Pass Entry → Core
+  core_seen store pass = core_after (start_of store) (life_of (known pass).seen)
 
   -- it is a pass of this store
   abbrev pub IsOf : Store B K → Pass Entry → Type 0

@@ -10,7 +10,7 @@
 //!
 //! It stands on the lock of xl_turns and on the core of xl_core. Its one contract: the journal is a legal history of
 //! the core that the store was opened with, and each call answers what the core's step answers at its place in it. The
-//! entries that are kept are the journal.
+//! entries that are kept are the journal. A status is what the core tells of its node at a place, without the keys.
 #![tactic(auto)]
 
 mod entry;
@@ -19,10 +19,12 @@ mod home;
 mod journal;
 mod outcome;
 mod page;
+mod status;
 mod store;
 
 pub use entry::{Entry, Saved};
 pub use history::Histories;
 pub use home::Home;
 pub use journal::{Entries, Journal};
+pub use status::NodeStatus;
 pub use store::{Closed, Pass, Spared, Store, StoreEnd};

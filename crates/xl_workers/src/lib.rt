@@ -22,4 +22,4 @@ mod worker;
 
 pub use ends::RunEnd;
 pub use plan::{Contact, Plan};
-pub use running::{Ran, node};
+pub use running::{Ran, node, node_and_tell};

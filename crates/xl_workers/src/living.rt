@@ -4,6 +4,7 @@ ghost use Rattle.xl_tags.specs.Rings.{key_of};
 ghost use Rattle.xl_turns.specs.Passes.{known};
 ghost use Rattle.xl_turns.specs.Knowing.{newcomer};
 ghost use Rattle.xl_store.specs.Stores.{start_of, turns_of, IsOf};
+ghost use Rattle.xl_heartbeat.specs.Bulletins.{ToldIf};
 ghost use Rattle.xl_heartbeat.specs.Outputs.{output};
 ghost use Rattle.xl_workers.specs.Linking.{contact_of, target_of, hub_seen};
 ghost use Rattle.xl_workers.specs.Sharing.{setting};
@@ -19,7 +20,8 @@ use crate::submitting::submit_all;
 use crate::worker::run;
 use std::sync::Wait;
 use std::thread::Threads;
-use xl_heartbeat::{Ending, take_reports};
+use xl_board::Board;
+use xl_heartbeat::{Bulletin, Ending, take_reports};
 use xl_io::{Discard, Keeper, Sink};
 use xl_ledger::Branch;
 use xl_links::{Clock, Gate, Hub};
@@ -69,6 +71,7 @@ pub(crate) fn live<
     G: Gate + Sync,
     C: Clock + Sync,
     O: Sink + Send,
+    D: Board + Drop + Send,
 >(
     host: &Host<'_, W, G, C>,
     store: &Store<B, K>,
@@ -76,6 +79,7 @@ pub(crate) fn live<
     plan: Plan,
     hub: &mut H,
     sink: &mut O,
+    bulletin: &mut Option<Bulletin<D>>,
 ) -> (RunEnd, Pass)
     requires pass { IsOf store.now pass }
     requires new { known pass ≡ newcomer }
@@ -91,6 +95,7 @@ pub(crate) fn live<
         (hub_seen (H.faults hub.old) (H.asked hub.old)) (hub_seen (H.faults hub.new) (H.asked hub.new))
         (output (O.held sink.old) (O.faults sink.old)) (output (O.held sink.new) (O.faults sink.new)))
         result.0 (known result.1) }
+    ensures told { ToldIf D.show_gives (start_of store.now) bulletin.old (known result.1).seen bulletin.new }
 {
     let Plan {
         turns: _,
@@ -120,6 +125,7 @@ pub(crate) fn live<
         workers.as_mut_slice(),
         &pulse,
         sink,
+        bulletin,
     );
     let one = store.join(first, heart);
     let mut pass = join_all(store, one, workers);

@@ -9,6 +9,7 @@ ghost use Rattle.xl_store.specs.Entries.{Leads, life_of};
 ghost use Rattle.xl_store.specs.Closing.{KeepsAll};
 ghost use Rattle.xl_store.specs.Pages.{entries_if};
 ghost use Rattle.xl_store.specs.Stores.{start_of, keeper_of, turns_of, keeps_of, IsOf};
+ghost use Rattle.xl_heartbeat.specs.Bulletins.{ToldIf};
 ghost use Rattle.xl_heartbeat.specs.Outputs.{output};
 ghost use Rattle.xl_workers.specs.Linking.{contact_of, hub_seen, target_of};
 ghost use Rattle.xl_workers.specs.Sharing.{setting};
@@ -20,7 +21,9 @@ use crate::plan::Plan;
 use std::alloc::Global;
 use std::sync::Wait;
 use std::thread::Threads;
+use xl_board::{Board, MemBoard};
 use xl_core::Core;
+use xl_heartbeat::Bulletin;
 use xl_io::{Keeper, Sink};
 use xl_ledger::Branch;
 use xl_links::{Clock, Gate, Hub};
@@ -79,11 +82,60 @@ pub fn node<
     ensures spared { IfErr result (λ spared. (spared.core ≡ core) × (spared.keeper ≡ keeper)) }
     ensures nothing { OnErr result ((hub.new ≡ hub.old) × (sink.new ≡ sink.old)) }
 {
+    let mut untold: Option<Bulletin<MemBoard>> = None;
+    node_and_tell(host, core, keeper, plan, hub, sink, &mut untold)
+}
+
+/// Runs a validator as `node` does, whose heartbeat tells on the bulletin, if there is one, how the node is.
+pub fn node_and_tell<
+    W: Threads + Wait + Sync,
+    B: Branch + Drop + Send,
+    K: Keeper + Drop + Send,
+    H: Hub,
+    G: Gate + Sync,
+    C: Clock + Sync,
+    O: Sink + Send,
+    D: Board + Drop + Send,
+>(
+    host: &Host<'_, W, G, C>,
+    core: Core<B>,
+    keeper: K,
+    plan: Plan,
+    hub: &mut H,
+    sink: &mut O,
+    bulletin: &mut Option<Bulletin<D>>,
+) -> Result<Ran<B, K>, Spared<B, K>>
+    requires turns { (0 < plan.turns) × (plan.turns ≤ 2 ^ 62) }
+    requires peers { AllByRecursion (λ m. IsSome (key_of core.node.keys m)) (map contact_of plan.contacts.items) }
+    requires once { IsDistinct nat_eq (map contact_of plan.contacts.items) }
+    requires few { length plan.contacts.items ≤ 64 }
+    // the journal is one legal history, which leads to the core, and leaves the keeper
+    ensures legal { IfOk result (λ ran. Runs Leads core ran.closed.journal ran.closed.core) }
+    ensures life { IfOk result (λ ran. ran.closed.core ≡ core_after core (life_of ran.closed.journal)) }
+    ensures keeper { IfOk result (λ ran. KeepsAll K.held K.saves K.faults K.save_gives
+        core ran.closed.journal keeper ran.closed.keeper) }
+    ensures limit { IfOk result (λ ran. length ran.closed.journal ≤ plan.turns) }
+    ensures kept { IfOk result (λ ran. ran.closed.entries ≡ entries_if plan.keeps ran.closed.journal) }
+    // its places are shared out, its lines are the output, and the hub was asked for links as the plan names them
+    ensures run { IfOk result (λ ran. NodeRun
+        (setting core plan.turns (C.may_give host.now.clock.now) (H.gives hub.old))
+        (doing plan.submits.items (map target_of plan.contacts.items) plan.pulse
+        (hub_seen (H.faults hub.old) (H.asked hub.old)) (hub_seen (H.faults hub.new) (H.asked hub.new))
+        (output (O.held sink.old) (O.faults sink.old)) (output (O.held sink.new) (O.faults sink.new)))
+        ran.end ran.closed.journal) }
+    ensures unopened { IfOk result (λ ran. (n : ℕ) → ran.end ≡ RunEnd.StoreFull n → hub.new ≡ hub.old) }
+    ensures later { H.faults hub.old ≤ H.faults hub.new }
+    // what the board was handed is the texts of how the core was, at places of the journal
+    ensures told { IfOk result (λ ran. ToldIf D.show_gives core bulletin.old ran.closed.journal bulletin.new) }
+    ensures untold { OnErr result (bulletin.new ≡ bulletin.old) }
+    ensures spared { IfErr result (λ spared. (spared.core ≡ core) × (spared.keeper ≡ keeper)) }
+    ensures nothing { OnErr result ((hub.new ≡ hub.old) × (sink.new ≡ sink.old)) }
+{
     let (store, pass) = match store_of(host.alloc, core, keeper, plan.turns, plan.keeps) {
         Ok(opened) => opened,
         Err(spared) => return Err(spared),
     };
-    let (end, pass) = live(host, &store, pass, plan, hub, sink);
+    let (end, pass) = live(host, &store, pass, plan, hub, sink, bulletin);
     let closed = store.close(pass);
     Ok(Ran { end, closed })
 }

@@ -3,13 +3,15 @@ ghost use Rattle.xl_turns.specs.Passes.{known};
 ghost use Rattle.xl_store.specs.Stores.{start_of, turns_of, IsOf};
 ghost use Rattle.xl_heartbeat.specs.Outputs.{output};
 ghost use Rattle.xl_heartbeat.specs.Beats.{Heartbeat};
+ghost use Rattle.xl_heartbeat.specs.Bulletins.{ToldIf};
 ghost use Rattle.xl_workers.specs.Serving.{IsReady, HasServed, AreReady, HaveServed};
 
 use crate::linking::Peer;
 use std::sync::Wait;
 use std::thread;
 use std::thread::Threads;
-use xl_heartbeat::{BeatEnd, Pulse, beat};
+use xl_board::Board;
+use xl_heartbeat::{BeatEnd, Bulletin, Pulse, beat_and_tell};
 use xl_io::{Keeper, Sink};
 use xl_ledger::Branch;
 use xl_links::{Clock, Gate, Link};
@@ -60,6 +62,28 @@ pub(crate) fn work_all<
     );
 }
 
+/// The heartbeat, which tells on the bulletin if there is one.
+fn beat_on<W: Wait, B: Branch + Drop, K: Keeper + Drop, O: Sink, C: Clock, D: Board + Drop>(
+    rt: &W,
+    store: &Store<B, K>,
+    clock: &C,
+    sink: &mut O,
+    pulse: &Pulse,
+    bulletin: &mut Option<Bulletin<D>>,
+    pass: &mut Pass,
+) -> BeatEnd
+    requires pass { IsOf store.now pass.old }
+    ensures pass { IsOf store.now pass.new }
+    ensures heartbeat { Heartbeat (start_of store.now) (turns_of store.now) (C.may_give clock.now) pulse.now
+        (known pass.old) (output (O.held sink.old) (O.faults sink.old)) result
+        (known pass.new) (output (O.held sink.new) (O.faults sink.new)) }
+    ensures told { ToldIf D.show_gives (start_of store.now) bulletin.old (known pass.new).seen bulletin.new }
+{
+    let left = beat_and_tell(rt, store, clock, sink, pulse, bulletin.take(), pass);
+    *bulletin = left.bulletin;
+    left.end
+}
+
 /// All workers beside the heartbeat, until all have ended.
 pub(crate) fn run<
     W: Threads + Wait + Sync,
@@ -69,6 +93,7 @@ pub(crate) fn run<
     G: Gate + Sync,
     C: Clock + Sync,
     O: Sink + Send,
+    D: Board + Drop + Send,
 >(
     host: &Host<'_, W, G, C>,
     store: &Store<B, K>,
@@ -76,6 +101,7 @@ pub(crate) fn run<
     workers: &mut [Worker<L>],
     pulse: &Pulse,
     sink: &mut O,
+    bulletin: &mut Option<Bulletin<D>>,
 ) -> BeatEnd
     requires pass { IsOf store.now pass.old }
     requires ready { AreReady store.now workers.old }
@@ -83,6 +109,7 @@ pub(crate) fn run<
     ensures heartbeat { Heartbeat (start_of store.now) (turns_of store.now) (C.may_give host.now.clock.now) pulse.now
         (known pass.old) (output (O.held sink.old) (O.faults sink.old)) result
         (known pass.new) (output (O.held sink.new) (O.faults sink.new)) }
+    ensures told { ToldIf D.show_gives (start_of store.now) bulletin.old (known pass.new).seen bulletin.new }
     ensures served { HaveServed store.now (C.may_give host.now.clock.now) L.shows workers.old workers.new }
     ensures long { length workers.new ≡ length workers.old }
 {
@@ -99,8 +126,9 @@ pub(crate) fn run<
             ensures { IsOf store.entry.now pass.exit.now
                 × Heartbeat (start_of store.entry.now) (turns_of store.entry.now) (C.may_give host.entry.now.clock.now) pulse.entry.now
                 (known pass.entry.now) (output (O.held sink.entry.now) (O.faults sink.entry.now)) result
-                (known pass.exit.now) (output (O.held sink.exit.now) (O.faults sink.exit.now)) }
-        { beat(host.rt, store, host.clock, sink, pulse, pass) },
+                (known pass.exit.now) (output (O.held sink.exit.now) (O.faults sink.exit.now))
+                × ToldIf D.show_gives (start_of store.entry.now) bulletin.entry.now (known pass.exit.now).seen bulletin.exit.now }
+        { beat_on(host.rt, store, host.clock, sink, pulse, bulletin, pass) },
     );
     beats
 }

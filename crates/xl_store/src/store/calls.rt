@@ -5,11 +5,12 @@ ghost use Rattle.xl_wire.specs.Lengths.{longest_frame};
 ghost use Rattle.xl_core.specs.Answers.{Beats, Done, Told};
 ghost use Rattle.xl_core.specs.Replies.{taken_answer, done_answer};
 ghost use Rattle.xl_core.specs.declared.event.CoreEvent.TheVariants.{Issue, Frame, Timer, Submit, Greet, Stop, Stopped, Relist};
-ghost use Rattle.xl_store.specs.Stores.{start_of, IsOf, Called, Drained, HandedOut, Refused};
+ghost use Rattle.xl_store.specs.Statuses.{status_of};
+ghost use Rattle.xl_store.specs.Stores.{start_of, core_seen, IsOf, Called, Drained, HandedOut, Refused};
 
 use super::{Pass, Store, StoreEnd};
 use crate::entry::copy_of;
-use crate::outcome;
+use crate::{NodeStatus, outcome};
 use std::sync::Wait;
 use xl_base::{LedgerId, Millis, NodeNo, Seq, TxId};
 use xl_core::{CoreEvent, Refusal, Report, Taken, TimerAnswer};
@@ -196,6 +197,30 @@ impl<B: Branch + Drop, K: Keeper + Drop> Store<B, K> {
         let written = turn.object.core.reports(room);
         self.finish(pass, turn, page);
         Ok(written)
+    }
+
+    /// Takes out reports as `reports` does, and tells how the node is then. It is one turn, and its entry is that of
+    /// `reports`: so who asks how the node is leaves no trace in the journal.
+    pub fn reports_and_status<W: Wait>(
+        &self,
+        rt: &W,
+        pass: &mut Pass,
+        room: &mut [Report],
+    ) -> Result<(usize, NodeStatus), StoreEnd>
+        requires pass { IsOf self.now pass.old }
+        ensures pass { IsOf self.now pass.new }
+        ensures called { IfOk result (λ taken. HandedOut self.now pass.old taken.0 room.old room.new pass.new) }
+        // It is how the core is after all that the pass has then seen.
+        ensures status { IfOk result (λ taken. taken.1 ≡ status_of (core_seen self.now pass.new)) }
+        ensures refused { IfErr result (λ end. Refused self.now pass.old end pass.new) }
+        ensures room { IfErr result (λ _. room.new ≡ room.old) }
+    {
+        let event = CoreEvent::Reports { room: room.len() };
+        let (mut turn, page) = self.enter(rt, pass, event)?;
+        let written = turn.object.core.reports(room);
+        let status = NodeStatus::of(&turn.object.core);
+        self.finish(pass, turn, page);
+        Ok((written, status))
     }
 
     /// Notes that the node is to stop: whoever runs it asks `stopped`.

@@ -9,6 +9,7 @@ use Rattle.xl_tags.specs.Rings.{key_of}
 use Rattle.xl_turns.specs.Passes.{known}
 use Rattle.xl_store.specs.Stores.{start_of, turns_of}
 use Rattle.xl_heartbeat.specs.Outputs.{output}
+use Rattle.xl_heartbeat.proofs.Telling.{untold, still_told}
 use Rattle.xl_workers.specs.declared.ends.RunEnd.{RunEnd}
 use Rattle.xl_workers.specs.declared.ends.RunEnd.TheVariants as end
 use Rattle.xl_workers.specs.declared.linking.Peer.{Peer}
@@ -250,3 +251,31 @@ returns-clause-lived g c =
     lived s (doing ids targets pulse old_hub new_hub o1 o3) old mid new (end.Ran beats last) c.requires.new sub
     (lives_ran s pulse targets ids old_hub new_hub mid (known all) new o1 o2 o3 beats last
     c.in-Ok-open_links.ensures.asked by_targets c.take_last-last.ensures.last)
+
+pub returns-in-Err-clause-told : goal.returns-in-Err-clause-told
+returns-in-Err-clause-told g c =
+    untold g.D.Board.show_gives (start_of c.args.store.now) c.args.bulletin.now (known c.submit_all.new.pass).seen
+
+pub returns-in-Err-NetFault-clause-told : goal.returns-in-Err-NetFault-clause-told
+returns-in-Err-NetFault-clause-told g c =
+    untold g.D.Board.show_gives (start_of c.args.store.now) c.args.bulletin.now (known c.submit_all.new.pass).seen
+
+pub returns-in-Err-OutOfMemory-clause-told : goal.returns-in-Err-OutOfMemory-clause-told
+returns-in-Err-OutOfMemory-clause-told g c =
+    untold g.D.Board.show_gives (start_of c.args.store.now) c.args.bulletin.now (known c.submit_all.new.pass).seen
+
+pub returns-in_default-clause-told : goal.returns-in_default-clause-told
+returns-in_default-clause-told g c =
+    untold g.D.Board.show_gives (start_of c.args.store.now) c.args.bulletin.now (known c.submit_all.new.pass).seen
+
+pub returns-clause-told : goal.returns-clause-told
+returns-clause-told g c =
+    let gives = g.D.Board.show_gives in
+    let start = start_of c.args.store.now in
+    let old = c.args.bulletin.now in
+    let new = c.run-beats.new.bulletin in
+    let all = (known c.join_all-pass.result).seen in
+    still_told gives start old new all (known c.take_last-last.new.pass).seen c.take_last-last.ensures.last.made.begins
+    (still_told gives start old new (known c.join-one.result).seen all c.join_all-pass.ensures.first
+    (still_told gives start old new (known c.run-beats.new.pass).seen (known c.join-one.result).seen
+    c.join-one.ensures.other c.run-beats.ensures.told))

@@ -4,11 +4,13 @@ use Rattle.xl_turns.specs.Passes.{known}
 use Rattle.xl_core.specs.Core.{Core}
 use Rattle.xl_store.specs.Stores.{start_of, turns_of}
 use Rattle.xl_heartbeat.specs.Outputs.{output}
+use Rattle.xl_heartbeat.specs.Bulletins.{ToldIf}
+use Rattle.xl_heartbeat.proofs.Telling.{still_told}
 use Rattle.xl_workers.specs.Linking.{hub_seen, target_of}
 use Rattle.xl_workers.specs.Sharing.{setting}
 use Rattle.xl_workers.specs.Runs.{doing, NodeRun}
 use Rattle.xl_workers.specs.Working.{Closes}
-use Rattle.xl_workers.proofs.running.node.Goals as goal
+use Rattle.xl_workers.proofs.running.node_and_tell.Goals as goal
 
 pub returns-clause-run : goal.returns-clause-run
 returns-clause-run g c =
@@ -31,3 +33,13 @@ returns-clause-run g c =
     subst (λ (core : Core). NodeRun (setting core c.args.plan.turns may gives) d end history)
     c.in-Ok.ensures.start.0
     (subst (λ (turns : ℕ). NodeRun (setting (start_of store) turns may gives) d end history) c.in-Ok.ensures.limit run)
+
+pub returns-clause-told : goal.returns-clause-told
+returns-clause-told g c =
+    let gives = g.D.Board.show_gives in
+    let old = c.args.bulletin.now in
+    let new = c.live-end.new.bulletin in
+    let history = c.close-closed.result.journal in
+    subst (λ (core : Core). ToldIf gives core old history new) c.in-Ok.ensures.start.0
+    (still_told gives (start_of c.in-Ok.opened.0) old new (known c.live-end.result.1).seen history
+    c.close-closed.ensures.begins c.live-end.ensures.told)

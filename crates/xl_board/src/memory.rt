@@ -1,0 +1,98 @@
+ghost use Rattle.std.specs.Prelude.{◌≡◌, ◌≤◌, Some, None, option_map};
+ghost use Rattle.xl_base.specs.Counts.{one_more};
+ghost use Rattle.xl_base.specs.Faults.{Rose};
+
+use crate::Board;
+use std::alloc::Global;
+use xl_io::Failed;
+
+/// A board in memory, of whose calls some fail: those that are listed, by their numbers from 1 on, and those for which
+/// memory runs out. A call that fails leaves the former text.
+#[derive(Drop)]
+pub struct MemBoard {
+    alloc: Global,
+    text: Option<Vec<u8>>,
+    failing: Vec<u64>,
+    calls: u64,
+    faults: u64,
+}
+
+impl MemBoard {
+    ghost use Rattle.xl_board.specs.Memory.{text_on};
+
+    /// A board on which nothing stands.
+    pub fn new(alloc: Global, failing: Vec<u64>) -> Self
+        ensures text { text_on result ≡ None }
+        ensures faults { ⟦<MemBoard as Board>⟧.faults result ≡ 0 }
+    {
+        MemBoard {
+            alloc,
+            text: None,
+            failing,
+            calls: 0,
+            faults: 0,
+        }
+    }
+
+    /// The text that stands there.
+    pub fn text(&self) -> Option<&[u8]>
+        ensures { option_map (λ bytes. bytes.now) result ≡ text_on self.now }
+    {
+        match &self.text {
+            Some(text) => Some(text.as_slice()),
+            None => None,
+        }
+    }
+
+    /// How often it was called, up to the greatest `u64`.
+    pub fn calls(&self) -> u64
+        ensures { result ≡ self.now.calls }
+    {
+        self.calls
+    }
+
+    /// Counts a call, and says whether it fails.
+    fn fails(&mut self) -> bool
+        ensures text { self.new.text ≡ self.old.text }
+        ensures faults { self.new.faults ≡ self.old.faults }
+        ensures calls { self.new.calls ≡ one_more self.old.calls }
+    {
+        self.calls = self.calls.saturating_add(1);
+        self.failing.contains(&self.calls)
+    }
+
+    /// Counts a fault.
+    fn fail(&mut self) -> Failed
+        ensures text { self.new.text ≡ self.old.text }
+        ensures later { self.old.faults ≤ self.new.faults }
+        ensures rose { Rose self.old.faults self.new.faults }
+    {
+        self.faults = self.faults.saturating_add(1);
+        Failed
+    }
+}
+
+impl Board for MemBoard {
+    ghost use Rattle.xl_board.specs.Memory.{text_on};
+
+    ghost stands = { λ board. Some (text_on board) };
+
+    ghost faults = { λ board. board.faults };
+
+    fn show(&mut self, text: &[u8]) -> Result<(), Failed> {
+        if self.fails() {
+            return Err(self.fail());
+        }
+        match text.to_vec(self.alloc) {
+            Ok(copy) => {
+                self.text = Some(copy);
+                Ok(())
+            }
+            Err(_) => Err(self.fail()),
+        }
+    }
+
+    fn faults(&self) -> u64 {
+        self.faults
+    }
+}

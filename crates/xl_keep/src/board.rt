@@ -1,0 +1,57 @@
+ghost use Rattle.std.specs.Prelude.{◌≡◌, ◌≤◌, is_ok, option_map};
+ghost use Rattle.xl_board.specs.Boards.{Shows};
+ghost use Rattle.xl_keep.specs.Boards.{shown_in};
+ghost use Rattle.xl_keep.specs.Saves.{counted};
+
+use crate::whole::WholeFile;
+use std::io;
+use xl_board::Board;
+use xl_io::Failed;
+
+/// A board in a file, which holds the text and nothing else. A call takes no memory, and isn't made again if it fails:
+/// the next text comes soon.
+#[derive(Drop)]
+pub struct FileBoard<F> {
+    file: F,
+    faults: u64,
+}
+
+impl<F: WholeFile + Drop> FileBoard<F> {
+    /// A board over this file, in which a text of an earlier run may stand.
+    pub fn new(file: F) -> Self
+        ensures stands { ⟦<FileBoard<F> as Board>⟧.stands result ≡ shown_in (F.shows file) }
+        ensures faults { ⟦<FileBoard<F> as Board>⟧.faults result ≡ 0 }
+    {
+        FileBoard { file, faults: 0 }
+    }
+
+    /// Writes the text beside the file, and puts it in its place.
+    fn replace(&mut self, text: &[u8]) -> io::Result<()>
+        ensures shows { Shows text.now (is_ok result) (shown_in (F.shows self.old.file)) (shown_in (F.shows self.new.file)) }
+        ensures faults { self.new.faults ≡ self.old.faults }
+    {
+        self.file.write_beside(text)?;
+        self.file.put_in_place()
+    }
+}
+
+impl<F: WholeFile + Drop> Board for FileBoard<F> {
+    ghost stands = { λ board. shown_in (F.shows board.file) };
+
+    ghost faults = { λ board. board.faults };
+
+    /// It fails if the text can't be written beside the file, or not put in its place.
+    fn show(&mut self, text: &[u8]) -> Result<(), Failed> {
+        match self.replace(text) {
+            Ok(()) => Ok(()),
+            Err(_) => {
+                self.faults = self.faults.saturating_add(1);
+                Err(Failed)
+            }
+        }
+    }
+
+    fn faults(&self) -> u64 {
+        self.faults
+    }
+}

@@ -1,0 +1,89 @@
+-- The text that says how a node is. Source: this project's own formats.
+use Rattle.std.specs.Prelude.{ℕ, Bool, List, ◌∷◌, [], ◌++◌, decimal, codes, Some, None, if◌then◌else◌}
+use Rattle.std.specs.declared.option.Option.{Option}
+use Rattle.std.specs.List.{flat_map}
+use Rattle.hex.specs.Hex.{encode_lower}
+use Rattle.xl_base.specs.declared.status.Status.{Status}
+use Rattle.xl_base.specs.Statuses.{code_of}
+use Rattle.xl_core.specs.declared.report.Report.{Report}
+use Rattle.xl_store.specs.declared.status.NodeStatus.{NodeStatus}
+use Rattle.xl_status.specs.declared.hearing.Hearing.{Hearing}
+use Rattle.xl_status.specs.declared.profile.Profile.{Profile}
+use Rattle.xl_status.specs.Hearings.{is_heard_in, heard_at}
+
+abbrev pub space : List ℕ
+space = codes " "
+
+abbrev pub newline : List ℕ
+newline = 10 ∷ []
+
+-- a word and a value
+abbrev pub line : List ℕ → List ℕ → List ℕ
+line word value = word ++ space ++ value ++ newline
+
+abbrev pub number_line : List ℕ → ℕ → List ℕ
+number_line word number = line word (decimal number)
+
+-- whether it takes part in rounds
+abbrev pub validating_line : Bool → List ℕ
+validating_line validating =
+    if validating then line (codes "validating") (codes "yes") else line (codes "validating") (codes "no")
+
+-- what it is run with
+unfoldable pub profile_lines : Profile → List ℕ
+profile_lines p =
+    validating_line p.validating
+    ++ number_line (codes "speak") p.speak
+    ++ number_line (codes "turns") p.turns
+    ++ number_line (codes "heartbeat_ms") p.heartbeat_ms
+    ++ number_line (codes "run_ms") p.run_ms
+
+-- whether it issues: not once the save of a sequence has failed
+abbrev pub issuing_line : Option ℕ → List ℕ
+issuing_line None = line (codes "issues") (codes "yes")
+issuing_line (Some seq) = line (codes "issues") (codes "no " ++ decimal seq)
+
+-- a ledger, if there is one: its sequence, and its id as 64 lower-case digits
+abbrev pub ledger_line : List ℕ → Option Report → List ℕ
+ledger_line word None = line word (codes "none")
+ledger_line word (Some ledger) = line word (decimal ledger.seq ++ space ++ encode_lower ledger.id.0)
+
+-- what its core tells
+unfoldable pub core_lines : NodeStatus → List ℕ
+core_lines s =
+    number_line (codes "me") s.me
+    ++ number_line (codes "moment") s.time
+    ++ number_line (codes "limit") s.limit
+    ++ number_line (codes "ledgers") s.ledgers
+    ++ number_line (codes "kept") s.kept
+    ++ issuing_line s.failed_save
+    ++ ledger_line (codes "report") s.last
+    ++ ledger_line (codes "prefers") s.preferred
+    ++ number_line (codes "lost") s.lost_reports
+    ++ number_line (codes "quorum") s.list.quorum
+
+-- a member that is silent, and when it was last heard
+abbrev pub silent_line : ℕ → ℕ → List ℕ
+silent_line member since = line (codes "silent") (decimal member ++ space ++ decimal since)
+
+abbrev pub member_line : NodeStatus → Hearing → ℕ → List ℕ
+member_line status hearing member =
+    if is_heard_in status member then number_line (codes "heard") member else silent_line member (heard_at hearing member)
+
+-- all members of the list, by rising number
+abbrev pub member_lines : NodeStatus → Hearing → List ℕ
+member_lines status hearing = flat_map (member_line status hearing) status.list.members
+
+-- it runs, or has ended with this exit status
+abbrev pub end_line : Option Status → List ℕ
+end_line None = codes "runs" ++ newline
+end_line (Some status) = number_line (codes "ended") (code_of status)
+
+-- all of it
+abbrev pub status_text : Profile → NodeStatus → Hearing → Option Status → List ℕ
+status_text profile status hearing ended =
+    line (codes "xl-status") (codes "1")
+    ++ profile_lines profile
+    ++ core_lines status
+    ++ member_lines status hearing
+    ++ end_line ended

@@ -1,0 +1,17 @@
+//! The text that says how a running node is: what it is run with, what its core tells, and which members of its list are
+//! heard.
+//!
+//! It stands on the statuses of xl_store. Its one contract: the text is a function of these alone, so of no key; and the
+//! moment since which a member is silent is that of the last status in which it was heard.
+#![tactic(auto)]
+
+mod hearing;
+mod profile;
+mod text;
+
+pub use hearing::Hearing;
+pub use profile::Profile;
+pub use text::push_status;
+
+#[cfg(test)]
+mod tests;

@@ -1,0 +1,87 @@
+use super::*;
+use std::test::Fail;
+use xl_base::{LedgerId, MOST_MEMBERS, NodeNo, Status};
+use xl_core::Report;
+use xl_lists::List;
+use xl_store::NodeStatus;
+
+const PROFILE: Profile = Profile {
+    validating: true,
+    speak: 2,
+    turns: 10_000_000,
+    heartbeat_ms: 1000,
+    run_ms: 0,
+};
+
+/// Node 2 of the list 1, 2, 3 at a moment, by which members 1 and 2 are heard.
+fn status(time: u64) -> Result<NodeStatus, Fail> {
+    let mut heard = [false; MOST_MEMBERS];
+    heard[0] = true;
+    heard[1] = true;
+    Ok(NodeStatus {
+        me: NodeNo::new(2).ok_or("number")?,
+        list: List::new(&[1, 2, 3], 2)?,
+        time,
+        ledgers: 8,
+        limit: 16_384,
+        kept: 7,
+        failed_save: None,
+        last: Some(Report {
+            seq: 6,
+            id: LedgerId([10; 32]),
+        }),
+        preferred: None,
+        lost_reports: 0,
+        heard,
+    })
+}
+
+const FRONT: &str = "xl-status 1
+validating yes
+speak 2
+turns 10000000
+heartbeat_ms 1000
+run_ms 0
+me 2
+moment 9000
+limit 16384
+ledgers 8
+kept 7
+";
+
+#[test]
+fn tells_who_is_silent(rt: HostRuntime) -> Result<(), Fail> {
+    let mut hearing = Hearing::new(5000);
+    let status = status(9000)?;
+    hearing.note(&status);
+    let mut text = String::new(rt.alloc());
+    push_status(rt.alloc(), &mut text, &PROFILE, &status, &hearing, None)?;
+    let id = "0a0a0a0a0a0a0a0a0a0a0a0a0a0a0a0a0a0a0a0a0a0a0a0a0a0a0a0a0a0a0a0a";
+    let told = format!(in rt.alloc();
+        "{FRONT}issues yes\nreport 6 {id}\nprefers none\nlost 0\nquorum 2\nheard 1\nheard 2\nsilent 3 5000\nruns\n"
+    )?;
+    assert_eq!(rt; text.as_str(), told.as_str());
+    Ok(())
+}
+
+#[test]
+fn tells_how_it_ended(rt: HostRuntime) -> Result<(), Fail> {
+    let mut status = status(9000)?;
+    status.failed_save = Some(8);
+    status.last = None;
+    let mut text = String::new(rt.alloc());
+    let ended = Some(Status::KeepFault);
+    push_status(
+        rt.alloc(),
+        &mut text,
+        &PROFILE,
+        &status,
+        &Hearing::new(5000),
+        ended,
+    )?;
+    let told = format!(in rt.alloc();
+        "{FRONT}issues no 8\nreport none\nprefers none\nlost 0\nquorum 2\nheard 1\nheard 2\nsilent 3 5000\nended 7\n"
+    )?;
+    assert_eq!(rt; text.as_str(), told.as_str());
+    Ok(())
+}
