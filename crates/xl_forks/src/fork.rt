@@ -13,7 +13,7 @@ use xl_base::{OutOfMemory, Seq};
 use xl_lists::{List, bound};
 
 /// Two reports of one sequence that name different ledgers.
-#[derive(Clone, Copy, Debug)]
+#[derive(Clone, Copy)]
 pub struct Fork<'a> {
     pub one: &'a Reported,
     /// It was read after the one.

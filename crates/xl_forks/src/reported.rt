@@ -2,7 +2,7 @@ use xl_base::{LedgerId, Seq};
 use xl_lists::List;
 
 /// In an entry of a journal, both counted from 1, a report arose, under this list.
-#[derive(Debug, Drop)]
+#[derive(Drop)]
 pub struct Reported {
     pub seq: Seq,
     pub journal: u32,

@@ -8,7 +8,7 @@ use std::collections::BTreeMap;
 use xl_base::{NodeNo, OutOfMemory, Seq};
 
 /// The first word of a member on a sequence, and the first that names another ledger.
-#[derive(Clone, Copy, Debug)]
+#[derive(Clone, Copy)]
 pub(crate) struct Words<'a> {
     pub first: &'a Said,
     pub other: Option<&'a Said>,

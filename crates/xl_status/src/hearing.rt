@@ -5,7 +5,7 @@ use xl_base::{MOST_MEMBERS, Millis, NodeNo};
 use xl_store::NodeStatus;
 
 /// When each number was last heard, from 1 on, as statuses tell.
-#[derive(Clone, Copy, Debug)]
+#[derive(Clone, Copy)]
 pub struct Hearing {
     at: [Millis; MOST_MEMBERS],
 }

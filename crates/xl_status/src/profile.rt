@@ -1,7 +1,7 @@
 use xl_base::Millis;
 
 /// What a node is run with, beside what its core tells. No key is in it.
-#[derive(Clone, Copy, Debug, PartialEq, Eq)]
+#[derive(Clone, Copy, PartialEq, Eq)]
 pub struct Profile {
     pub validating: bool,
     /// The version of its validations.

@@ -9,7 +9,7 @@ use xl_ledger::Branch;
 use xl_lists::List;
 
 /// How a node is at a moment. No key is in it.
-#[derive(Debug, Drop)]
+#[derive(Drop)]
 pub struct NodeStatus {
     pub me: NodeNo,
     /// The list in force.
