@@ -10,7 +10,7 @@ use std::alloc::Global;
 use xl_base::OutOfMemory;
 
 /// The first entry that shows a member's word for a ledger of a sequence, and the first that shows its word for another.
-#[derive(Clone, Copy, Debug, PartialEq, Eq)]
+#[derive(Clone, Copy, PartialEq, Eq)]
 pub struct Equivocation {
     pub first: Said,
     pub other: Said,
