@@ -1,0 +1,4 @@
+pub mod Equivocations
+pub mod Forks
+pub mod Laws
+pub mod Kept
