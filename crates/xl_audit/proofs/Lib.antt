@@ -21,3 +21,4 @@ pub mod Heading
 pub mod Counting
 pub mod Rereading
 pub mod Leading
+pub mod Staying

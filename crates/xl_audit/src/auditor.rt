@@ -122,6 +122,8 @@ impl Auditor {
         ensures value { IfOk result (λ right. right ≡ is_right self.old (written_with entry.now reply.now)) }
         ensures core { IfOk result (λ right. IsTrue right → self.new ≡ (reply_of self.old entry.now).core) }
         ensures told { IfOk result (λ right. IsTrue right → TellsDeed self.old entry.now answer.new) }
+        // Its keys stay, even then.
+        ensures keys { OnOk result (self.new.node.keys ≡ self.old.node.keys) }
     {
         let mut keeper = EntryKeeper::of(entry.outcome);
         let mut text = Compared::with(self.alloc, reply);

@@ -52,6 +52,7 @@ fn reply_to_deed<T: ReplyText>(
         core.new (T.told text.new) keeper.new.asked) }
     ensures told { Retells core.old (event_for core.old deed.now) keeper.old.answer
         core.new (answer_of answer.new) keeper.new.asked }
+    ensures keys { core.new.node.keys ≡ core.old.node.keys }
 {
     core.happen(deed, keeper, answer);
     push_answer(alloc, text, answer)
@@ -126,7 +127,8 @@ fn reply_to_drain<T: ReplyText>(
     requires peer { IsSome (key_of core.old.node.keys member) }
     requires room { longest_frame ≤ room }
     requires text { T.told text.old ≡ [] }
-    ensures { OnOk result (Replies core.old (Drain member room) core.new (T.told text.new)) }
+    ensures text { OnOk result (Replies core.old (Drain member room) core.new (T.told text.new)) }
+    ensures keys { OnOk result (core.new.node.keys ≡ core.old.node.keys) }
 {
     let given = drain_all(alloc, core, member, room, piece)?;
     push_bytes(alloc, text, given.as_slice())
@@ -190,7 +192,8 @@ fn reply_to_reports<T: ReplyText>(
     text: &mut T,
 ) -> Result<(), OutOfMemory>
     requires text { T.told text.old ≡ [] }
-    ensures { OnOk result (Replies core.old (Reports room) core.new (T.told text.new)) }
+    ensures text { OnOk result (Replies core.old (Reports room) core.new (T.told text.new)) }
+    ensures keys { OnOk result (core.new.node.keys ≡ core.old.node.keys) }
 {
     let given = hand_out_all(alloc, core, room)?;
     push_reports(alloc, text, given.as_slice())
@@ -214,6 +217,7 @@ pub fn reply_to<T: ReplyText>(
         core.new (T.told text.new) keeper.new.asked) }
     ensures told { OnOk result (RetellsDeed core.old event.now keeper.old.answer
         core.new answer.new keeper.new.asked) }
+    ensures keys { OnOk result (core.new.node.keys ≡ core.old.node.keys) }
 {
     match event {
         CoreEvent::Issue { now, seq, id, full } => {

@@ -1,4 +1,7 @@
-use Rattle.xl_core.specs.Deeds.{event_for}
+use Rattle.std.proofs.Common.{◌∙◌, ap}
+use Rattle.xl_core.specs.Core.{Core}
+use Rattle.xl_core.specs.Deeds.{answer_of, event_for, save_told}
+use Rattle.xl_audit.proofs.Staying.{core_keys}
 use Rattle.xl_audit.proofs.Telling.{happened_ok, happened_so}
 use Rattle.xl_audit.proofs.stepping.reply_to_deed.Goals as goal
 
@@ -12,3 +15,8 @@ pub returns-clause-told : goal.returns-clause-told
 returns-clause-told g c =
     happened_so c.args.core.now c.happen.new.self (event_for c.args.core.now c.args.deed.now) c.happen.new.answer
     c.args.keeper.now c.happen.new.keeper c.requires.fresh c.happen.ensures
+
+pub returns-clause-keys : goal.returns-clause-keys
+returns-clause-keys g c =
+    ap (λ (k : Core). k.node.keys) c.happen.ensures.step.core
+    ∙ core_keys c.args.core.now (event_for c.args.core.now c.args.deed.now) (save_told (answer_of c.happen.new.answer))

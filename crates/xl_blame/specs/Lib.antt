@@ -1,0 +1,6 @@
+pub mod Gathering
+pub mod Networks
+pub mod Texts
+pub mod Summary
+pub mod Blaming
+pub mod States

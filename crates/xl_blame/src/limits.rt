@@ -1,0 +1,2 @@
+/// The most journals of one text.
+pub const MOST_JOURNALS: usize = 1_000;
