@@ -10,7 +10,7 @@ use xl_shown::End;
 use xl_tags::Keys;
 
 /// Two journals by their numbers, the lower first, that have two keys where there should be one.
-#[derive(Clone, Copy, Debug, PartialEq, Eq)]
+#[derive(Clone, Copy, PartialEq, Eq)]
 pub struct Mixed {
     pub one: u32,
     pub other: u32,

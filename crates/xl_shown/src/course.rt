@@ -23,7 +23,7 @@ pub enum Course {
 }
 
 /// What a line comes to.
-#[derive(Debug, Drop)]
+#[derive(Drop)]
 pub enum Came {
     /// It shows nothing.
     Passed,
@@ -33,7 +33,7 @@ pub enum Came {
 }
 
 /// How the entries of a journal were judged, as the auditor says it.
-#[derive(Clone, Copy, Debug, PartialEq, Eq)]
+#[derive(Clone, Copy, PartialEq, Eq)]
 pub enum Judged {
     /// So many are right, and there are no more.
     Yes(u64),

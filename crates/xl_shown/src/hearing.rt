@@ -14,7 +14,7 @@ use xl_tags::{Keys, open_raw};
 use xl_wire::{Body, Parted, Raw, read_body, split};
 
 /// A frame that is heard: it has the right tag, and comes from a listed member.
-#[derive(Clone, Copy, Debug, PartialEq, Eq)]
+#[derive(Clone, Copy, PartialEq, Eq)]
 pub struct Heard {
     pub from: NodeNo,
     /// The validation in it, if it is one.

@@ -14,7 +14,7 @@ use xl_lists::SaidLedger;
 use xl_store::Entry;
 
 /// What a right entry shows.
-#[derive(Clone, Copy, Debug, PartialEq, Eq)]
+#[derive(Clone, Copy, PartialEq, Eq)]
 pub struct Shown {
     /// The frame that the node hears in it.
     pub heard: Option<Heard>,
