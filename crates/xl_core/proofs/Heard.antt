@@ -19,7 +19,7 @@ use Rattle.xl_wire.proofs.RawLaws.{length-raw_bytes, spelled_split}
 use Rattle.xl_wire.proofs.BodyLaws.{spelled_read}
 use Rattle.xl_tags.specs.Opening.{refusal_of, is_sealed}
 use Rattle.xl_tags.specs.Sealing.{as_sealed, tag_by}
-use Rattle.xl_tags.proofs.OpeningLaws.{IsRaw-as_sealed, opens_alone, sealed_exactly}
+use Rattle.xl_tags.proofs.OpeningLaws.{IsRaw-as_sealed, as_sealed_same, opens_alone, sealed_exactly}
 use Rattle.xl_tags.specs.Rings.{Ring}
 use Rattle.xl_tags.specs.declared.refusal.TagRefusal.{TagRefusal}
 use Rattle.xl_tags.specs.declared.refusal.TagRefusal.TheVariants.{NotForMe, Stranger, BadTag}
@@ -330,3 +330,7 @@ framed_with Tested ring bytes f s = spelled_frame bytes f s
 framed_with Assumed ring bytes f s =
     subst (λ (b : List ℕ). IsFrame b (as_sealed ring f)) (sym (as_sealed_bytes ring bytes f s))
     (spelled_frame (raw_bytes (as_sealed ring f)) (as_sealed ring f) (record { frame = IsRaw-as_sealed ring f s.frame; spelling = refl }))
+
+-- bytes that their sender sealed stay
+pub sealed_already : (ring : Ring) (bytes : List ℕ) (f : RawFrame) → SpellsRaw f bytes → tag_by ring f.from f ≡ Some f.tag → bytes_as_sealed ring bytes ≡ bytes
+sealed_already ring bytes f s right = as_sealed_bytes ring bytes f s ∙ ap raw_bytes (as_sealed_same ring f right) ∙ sym s.spelling

@@ -13,7 +13,7 @@ use Rattle.xl_lists.specs.Lists.{is_on, is_outside}
 use Rattle.xl_wire.specs.Raws.{RawFrame, IsRaw, SpellsRaw, raw_bytes}
 use Rattle.xl_tags.specs.Macs.{mac}
 use Rattle.xl_tags.specs.Rings.{Ring, IsRing, key_of}
-use Rattle.xl_tags.specs.Sealing.{as_sealed, before_tag, tag_by, sealed}
+use Rattle.xl_tags.specs.Sealing.{as_sealed, before_tag, tag_by, sealed, with_tag}
 use Rattle.xl_tags.specs.Opening.{HasKeys, is_sealed, refusal_of, SealedOpens, OpensAlone}
 use Rattle.xl_tags.specs.declared.refusal.TagRefusal.{TagRefusal}
 use Rattle.xl_tags.specs.declared.refusal.TagRefusal.TheVariants.{BadTag, NotForMe, Stranger}
@@ -207,3 +207,7 @@ IsRaw-as_sealed ring f ok = record {
   to = ok.to;
   tag = tag_long (key_of ring f.from) (before_tag (raw_bytes f)) f.tag ok.tag;
 }
+
+-- what carries the tag under its sender's key stays
+pub as_sealed_same : (ring : Ring) (f : RawFrame) → tag_by ring f.from f ≡ Some f.tag → as_sealed ring f ≡ f
+as_sealed_same ring f right = ap (λ (o : Option (List ℕ)). with_tag f (unwrap_or o f.tag)) right
