@@ -5,17 +5,21 @@
 //! text in `NAME.out`. The file `refusals` has a schedule a line, ` / ` between its lines, and behind ` -> ` the text
 //! that refuses the last. The file `faults` has such a line as `runs`, with the bytes of a piece in front. Each read
 //! of that run fails once, and each write. The run must then end with the status of that fault and a front of the
-//! text.
+//! text. Then a node runs whose keeper, link or board fails, and one that serves two links side by side.
 //!
 //! It stands on xl_top. Its one contract: a run is called the same exactly if both the text and the status are.
 #![tactic(auto)]
 
+mod beside;
 mod comparison;
 mod faults;
+mod node_ends;
 mod run;
 
+use beside::run_beside;
 use comparison::Comparison;
 use faults::run_with_faults;
+use node_ends::run_ends;
 use run::{run_named, run_refused};
 use std::sync::Wait;
 use std::thread::Threads;
@@ -99,5 +103,7 @@ fn main(rt: HostRuntime) -> io::Result<()> {
     run_all(&rt, &rt, &mut tally)?;
     refuse_all(&rt, &rt, &mut tally)?;
     fail_all(&rt, &rt, &mut tally)?;
+    run_ends(&rt, &rt)?;
+    run_beside(&rt, &rt)?;
     println!(rt; "{} same, {} other", tally.same, tally.other)
 }

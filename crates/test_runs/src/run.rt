@@ -10,7 +10,7 @@ use xl_links::{MemClock, OpenGate, PlainHub};
 use xl_top::{Host, top};
 
 /// The moment at which the clock in memory begins, in milliseconds.
-const BEGINNING: u64 = 1000;
+pub const BEGINNING: u64 = 1000;
 
 /// Reads and writes are of so few bytes, so that lines are cut anywhere.
 const PIECES: [usize; 2] = [61, 1];
@@ -98,7 +98,8 @@ impl Run {
     }
 }
 
-fn words_of(alloc: Global, command: &str) -> Result<Vec<String>, AllocError> {
+/// The words of a command line.
+pub fn words_of(alloc: Global, command: &str) -> Result<Vec<String>, AllocError> {
     let mut words = Vec::new(alloc);
     for word in command.split_whitespace() {
         words.push(String::from_str(alloc, word)?)?;

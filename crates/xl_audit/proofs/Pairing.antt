@@ -15,9 +15,6 @@ pub record IsDecoded (s room : List ℕ) (i : ℕ) : Type 0 where
   pub digits : list_all is_lower_digit (drop (2 * i) s) ≡ list_all is_lower_digit s
   pub bytes : decode_pairs 0 s ≡ prepend (take i room) (decode_pairs (2 * i) (drop (2 * i) s))
 
-pub none_decoded : (s room : List ℕ) → IsDecoded s room 0
-none_decoded s room = record { digits = refl; bytes = decode_start s room }
-
 -- the digits from a pair on
 digits_from : (s : List ℕ) (i : ℕ) → 2 * i + 1 < length s
     → list_all is_lower_digit (drop (2 * i) s)

@@ -328,9 +328,6 @@ fewer (x ∷ xs) (suc n) lt = omega (arith, fewer xs n (omega (arith, lt)))
 
 -- A DRAIN SO FAR
 
-pub drain_begun : (start : Core) (to room : ℕ) → HasDrained start to room start room []
-drain_begun start to room = record { bytes = refl; core = refl; node = refl }
-
 module _ (start : Core) (to room : ℕ) (now after : Core) (left part count : ℕ) (given more : List ℕ)
     (so_far : HasDrained start to room now left given) (is : after ≡ after_drain now to part)
     (adds : more ≡ given ++ bytes_given now to part) where
@@ -361,9 +358,6 @@ module _ (start : Core) (to room : ℕ) (now after : Core) (left part count : �
   )
 
 -- REPORTS SO FAR
-
-pub handing_begun : (start : Core) (room : ℕ) → HasHanded start room start room []
-handing_begun start room = record { reports = refl; core = refl }
 
 module _ (start : Core) (room : ℕ) (now after : Core) (left part : ℕ) (given more : List Report)
     (so_far : HasHanded start room now left given) (is : after ≡ handed_out now part)

@@ -24,13 +24,6 @@ text_goes_on f n so_far now whole h more is =
     ∙ (append_assoc so_far (f n) (flat_map f (range_with_len (n + 1) (behind_all - (n + 1))))
     ∙ (ap (λ (ns : List ℕ). so_far ++ flat_map f ns) (sym (range_from n h)) ∙ is))
 
--- and nothing is to come behind the last
-pub text_ends : (f : ℕ → List ℕ) (n : ℕ) (so_far whole : List ℕ) → behind_all ≤ n
-    → so_far ++ flat_map f (range_with_len n (behind_all - n)) ≡ whole → so_far ≡ whole
-text_ends f n so_far whole h is =
-    let none : behind_all - n ≡ 0 = omega (arith, h) in
-    sym (append-nil so_far) ∙ (ap (λ (k : ℕ). so_far ++ flat_map f (range_with_len n k)) (sym none) ∙ is)
-
 -- a number that passes is the first
 pub found_first : (p : ℕ → Bool) (n : ℕ) → n ≤ greatest_node_no → p n ≡ true → find p (range_with_len n (behind_all - n)) ≡ Some n
 found_first p n h passes =
@@ -43,10 +36,6 @@ pub found_later : (p : ℕ → Bool) (n : ℕ) → n ≤ greatest_node_no → p 
 found_later p n h fails =
     ap (find p) (range_from n h)
     ∙ ap (λ (b : Bool). cond b (Some n) (find p (range_with_len (n + 1) (behind_all - (n + 1))))) fails
-
--- none is left behind the last
-pub found_none : (p : ℕ → Bool) (n : ℕ) → behind_all ≤ n → find p (range_with_len n (behind_all - n)) ≡ None
-found_none p n h = let none : behind_all - n ≡ 0 = omega (arith, h) in ap (λ (k : ℕ). find p (range_with_len n k)) none
 
 -- three parts that are added to a text, one after the other
 pub three_parts : (old first second now a b c : List ℕ) → first ≡ old ++ a → second ≡ first ++ b → now ≡ second ++ c

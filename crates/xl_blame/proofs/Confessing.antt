@@ -13,13 +13,6 @@ use Rattle.xl_blame.specs.Texts.{fork_line, heard_line, twice_line}
 use Rattle.xl_blame.specs.declared.summary.Tally.{Tally}
 use Rattle.xl_blame.proofs.Mixing.{here}
 
--- one more journal is looked at
-pub next_node : (k : ℕ) (es : List End) (i : ℕ) (e : End) (m : ℕ) (b : Bool) → i < length es → e ≡ get_or es i e → (e.keys.me == m) ≡ b
-    → journal_from k (drop i es) m ≡ cond b (Some k) (journal_from (k + 1) (drop (i + 1) es) m)
-next_node k es i e m b within is same =
-    ap (λ xs. journal_from k xs m) (here es i e within is)
-    ∙ ap (λ c. cond c (Some k) (journal_from (k + 1) (drop (i + 1) es) m)) same
-
 -- TWO WORDS FOR WHO GAVE WHAT
 
 module _ (ended : List End) (f g : ℕ → ℕ → Option Giver) (same : (k e : ℕ) → f k e ≡ g k e) where

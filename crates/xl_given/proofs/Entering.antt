@@ -37,9 +37,6 @@ seen_if : (b : Bool) (o : Option Noted) → option_map giver_seen (cond b o None
 seen_if true o = refl
 seen_if false o = refl
 
-pub none_by_entry : (found : BTreeMap (ℕ × ℕ) Giver) (given : List Noted) → IsEmpty found → IsKeptByEntry found given []
-none_by_entry found given empty k e = ap (lookup (is_at (by_entry (k, e)))) empty
-
 -- the next frame is looked at
 pub entry_next : (given heard : List Noted) (i : ℕ) (x : Noted) (before after : BTreeMap (ℕ × ℕ) Giver) (giver : Option Giver)
     → slice_get heard i ≡ Some x → giver ≡ option_map giver_seen (giver_of given x.member x.frame)
@@ -60,12 +57,6 @@ entry_next given heard i x before after giver is found kept first k e =
 either_way : {X : Type 0} (b : Bool) (x : X) → cond b x x ≡ x
 either_way true x = refl
 either_way false x = refl
-
-pub still_kept : (found : BTreeMap (ℕ × ℕ) Giver) (journal entry : ℕ) (giver : Option Giver) → giver ≡ None
-    → IsFirstKept found found journal entry giver
-still_kept found journal entry giver none k e =
-    sym (ap (λ g. option_or (get by_entry found (k, e)) (cond (journal == k && entry == e) g None)) none
-    ∙ (ap (option_or (get by_entry found (k, e))) (either_way (journal == k && entry == e) None) ∙ or_none (get by_entry found (k, e))))
 
 at_parts : (a k : ℕ × ℕ) → is_at (by_entry a) k ≡ (a.0 == k.0 && a.1 == k.1)
 at_parts a k =

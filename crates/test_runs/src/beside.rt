@@ -1,15 +1,11 @@
-//! Two links side by side: node 1 serves the members 2 and 3. Each of them has one validation to give, of the same
-//! ledger, and is silent from then on. The clock goes on only once both links were read again behind that frame. So a
-//! node that served one link to its end before the other wouldn't get there, and the run would say so.
-//!
-//! It stands on xl_top. It has no contract of its own: the gate compares what it prints, which is what the run wrote,
-//! the report of that ledger, and its status.
-#![tactic(auto)]
-
+// Two links side by side: node 1 serves the members 2 and 3. Each of them has one validation to give, of the same
+// ledger, and is silent from then on. The clock goes on only once both links were read again behind that frame. So a
+// node that served one link to its end before the other wouldn't get there, and the run would say so.
 mod clock;
 mod frame;
 mod link;
 
+use crate::run::{BEGINNING, words_of};
 use clock::HeldClock;
 use frame::sealed_frame;
 use link::CountedLink;
@@ -23,9 +19,6 @@ use xl_board::MemBoards;
 use xl_io::{MemKeeper, MemSink, MemSource};
 use xl_links::{MemHub, OpenGate, PlainLink, Spare};
 use xl_top::{Host, top};
-
-/// The moment at which the clock begins, in milliseconds.
-const BEGINNING: u64 = 1000;
 
 /// Node 1's settings. The keys are those of a schedule.
 const SETTINGS: &str = r#"me = 1
@@ -68,15 +61,6 @@ fn spare_of<'a>(
     })
 }
 
-/// The program's words `node`.
-fn words_of(alloc: Global) -> Result<Vec<String>, AllocError> {
-    let mut words = Vec::new(alloc);
-    for word in ["xl", "node"] {
-        words.push(String::from_str(alloc, word)?)?;
-    }
-    Ok(words)
-}
-
 /// Runs node 1 over these links.
 fn run<R: Threads + Wait + Sync>(
     threads: &R,
@@ -84,7 +68,7 @@ fn run<R: Threads + Wait + Sync>(
     links: Vec<Spare<CountedLink<'_>>>,
     clock: &HeldClock<'_>,
 ) -> Result<Ended, AllocError> {
-    let words = words_of(alloc)?;
+    let words = words_of(alloc, "xl node")?;
     let settings = SETTINGS.as_bytes().to_vec(alloc)?;
     let mut input = MemSource::new(settings, 61, Vec::new(alloc));
     let mut output = MemSink::new(alloc, 61, Vec::new(alloc));
@@ -129,7 +113,8 @@ fn tell(rt: &HostRuntime, ended: &Ended, clock: &HeldClock<'_>) -> io::Result<()
     Ok(())
 }
 
-fn main(rt: HostRuntime) -> io::Result<()> {
+/// Runs node 1 over two links, and prints how it went.
+pub fn run_beside<R: Threads + Wait + Sync>(rt: &HostRuntime, threads: &R) -> io::Result<()> {
     let alloc = rt.alloc();
     let (Some(me), Some(two), Some(three)) = (NodeNo::new(1), NodeNo::new(2), NodeNo::new(3)) else {
         return Ok(());
@@ -139,6 +124,6 @@ fn main(rt: HostRuntime) -> io::Result<()> {
     let mut links = Vec::new(alloc);
     links.push(spare_of(alloc, me, two, &left)?)?;
     links.push(spare_of(alloc, me, three, &right)?)?;
-    let ended = run(&rt, alloc, links, &clock)?;
-    tell(&rt, &ended, &clock)
+    let ended = run(threads, alloc, links, &clock)?;
+    tell(rt, &ended, &clock)
 }

@@ -1,0 +1,106 @@
+// How a node ends if one call of its outside fails.
+use crate::run::{BEGINNING, words_of};
+use std::alloc::{AllocError, Global};
+use std::io;
+use std::sync::Wait;
+use std::thread::Threads;
+use xl_base::Status;
+use xl_board::MemBoards;
+use xl_io::{MemKeeper, MemSink, MemSource};
+use xl_links::{MemClock, MemHub, OpenGate, PlainLink};
+use xl_top::{Host, top};
+
+/// Which call fails, if one does.
+#[derive(Clone, Copy, PartialEq, Eq)]
+enum Failing {
+    Nothing,
+    Load,
+    Link,
+    Board,
+}
+
+const ALONE: &str = "me = 1\nlist = [1]\nquorum = 1\nrun_ms = 20000\nstatus = \"xl.status\"\n";
+
+const WITH_A_PEER: &str =
+    "me = 1\nlist = [1]\nquorum = 1\n[[peer]]\nnumber = 2\ndial = \"192.0.2.1:5005\"\n\
+    key = \"00000000000000000000000000000000000000000000000000000000000000ff\"\n";
+
+impl Failing {
+    fn name(self) -> &'static str {
+        match self {
+            Failing::Nothing => "nothing",
+            Failing::Load => "the load",
+            Failing::Link => "the link",
+            Failing::Board => "the board",
+        }
+    }
+
+    fn settings(self) -> &'static str {
+        match self {
+            Failing::Link => WITH_A_PEER,
+            _ => ALONE,
+        }
+    }
+
+    /// The first call, if it is this one that fails.
+    fn first_if(self, call: Failing, alloc: Global) -> Result<Vec<u64>, AllocError> {
+        let mut calls = Vec::new(alloc);
+        if self == call {
+            calls.push(1)?;
+        }
+        Ok(calls)
+    }
+}
+
+/// How a node ends if this call fails.
+fn end<R: Threads + Wait + Sync>(
+    threads: &R,
+    alloc: Global,
+    failing: Failing,
+) -> Result<Status, AllocError> {
+    let words = words_of(alloc, "xl node")?;
+    let settings = failing.settings().as_bytes().to_vec(alloc)?;
+    let mut input = MemSource::new(settings, 61, Vec::new(alloc));
+    let mut output = MemSink::new(alloc, 61, Vec::new(alloc));
+    let loads = failing.first_if(Failing::Load, alloc)?;
+    let Ok(keeper) = MemKeeper::new(alloc, 0, loads, Vec::new(alloc)) else {
+        return Err(AllocError);
+    };
+    let links = failing.first_if(Failing::Link, alloc)?;
+    let hub: Result<MemHub<PlainLink>, _> = MemHub::new(alloc, Vec::new(alloc), links, 1);
+    let Ok(mut hub) = hub else {
+        return Err(AllocError);
+    };
+    let mut boards = MemBoards::new(alloc, failing != Failing::Board);
+    let clock = MemClock::new(BEGINNING);
+    let host = Host {
+        rt: threads,
+        alloc,
+        gate: &OpenGate,
+        clock: &clock,
+    };
+    let ended = top(
+        &host,
+        &words,
+        &mut input,
+        &mut output,
+        keeper,
+        &mut hub,
+        &mut boards,
+    );
+    Ok(ended.status)
+}
+
+/// Runs a node for each call that may fail, and prints how it ended.
+pub fn run_ends<R: Threads + Wait + Sync>(rt: &HostRuntime, threads: &R) -> io::Result<()> {
+    for failing in [
+        Failing::Nothing,
+        Failing::Load,
+        Failing::Link,
+        Failing::Board,
+    ] {
+        let status = end(threads, rt.alloc(), failing)?;
+        println!(rt; "node, {} fails: status {}", failing.name(), status.code())?;
+    }
+    Ok(())
+}
