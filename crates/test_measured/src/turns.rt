@@ -80,7 +80,10 @@ pub fn of_store<W: Threads + Wait + Sync>(
     halvings: u32,
 ) -> Option<u64> {
     let keeper = PlainKeeper::new(alloc, 4).ok()?;
-    let (store, pass) = Store::open(alloc, core_of(alloc)?, keeper, 1 << 40).ok()?;
+    let core = core_of(alloc)?;
+    let Ok((store, pass)) = Store::open(alloc, core, keeper, 1 << 40) else {
+        return None;
+    };
     let pass = beat_in(rt, &store, pass, times, halvings)?;
     if pass.is_whole() {
         Some(store.close(pass).entries?.len())
