@@ -115,8 +115,8 @@ impl Reader {
         let alloc = self.alloc;
         let mut said = None;
         match self.read(line, sent, &mut said) {
-            Ok(()) => Ok(said),
-            Err(fault) => Err(fault.refusal(alloc)),
+            Ok(()) => return Ok(said),
+            Err(fault) => return Err(fault.refusal(alloc)),
         }
     }
 

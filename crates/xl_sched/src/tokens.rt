@@ -45,7 +45,7 @@ impl<'a> Tokens<'a> {
     }
 
     /// The first token that is left, and those after it.
-    fn first(&self) -> Option<(&'a [u8], Tokens<'a>)>
+    pub(crate) fn first(&self) -> Option<(&'a [u8], Tokens<'a>)>
         ensures { MatchOption result (self.now ≡ []) (λ first. self.now ≡ first.0.now ∷ first.1) }
     {
         let (token, rest) = split_at_blank(without_blanks(self.rest));
@@ -54,6 +54,20 @@ impl<'a> Tokens<'a> {
         } else {
             Some((token, Tokens { rest }))
         }
+    }
+
+    /// The first four tokens that are left, and those after them.
+    pub(crate) fn four_and_others(
+        &self,
+    ) -> Option<(&'a [u8], &'a [u8], &'a [u8], &'a [u8], Tokens<'a>)>
+        ensures { MatchOption result (length self.now < 4)
+            (λ four. self.now ≡ four.0.now ∷ four.1.now ∷ four.2.now ∷ four.3.now ∷ four.4) }
+    {
+        let (first, rest) = self.first()?;
+        let (second, rest) = rest.first()?;
+        let (third, rest) = rest.first()?;
+        let (fourth, rest) = rest.first()?;
+        Some((first, second, third, fourth, rest))
     }
 
     fn only_one(&self) -> Option<&'a [u8]>

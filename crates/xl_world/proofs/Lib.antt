@@ -51,3 +51,4 @@ pub mod Partwise
 pub mod Keyed
 pub mod Rising
 pub mod Lives
+pub mod Seated

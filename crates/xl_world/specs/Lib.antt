@@ -20,3 +20,4 @@ pub mod Sending
 pub mod Itemwise
 pub mod Parts
 pub mod Laws
+pub mod Stands

@@ -139,6 +139,13 @@ impl Place {
     }
 }
 
+/// A number, and the place at which its node stands. It is looked up once for each event, and handed on.
+#[derive(Clone, Copy)]
+pub struct Seat {
+    pub number: NodeNo,
+    pub place: usize,
+}
+
 /// Where the node of a number stands.
 pub fn position_of(places: &[Place], i: NodeNo) -> Option<usize>
     ensures { result ≡ position (λ p. p.core.node.me == i) places.now }

@@ -16,10 +16,11 @@ ghost use Rattle.xl_world.specs.Ends.{IsLonger};
 ghost use Rattle.xl_world.specs.Indexes.{with_frames};
 ghost use Rattle.xl_world.specs.Rested.{Between, IsRested};
 ghost use Rattle.xl_world.specs.Seen.{AreFrames, IsFirstFrame, given_at, put_drained};
+ghost use Rattle.xl_world.specs.Stands.{IsSeat};
 ghost use Rattle.xl_world.specs.Itemwise.{Sends};
 ghost use Rattle.xl_world.specs.Sending.{said_to, sent_as};
 
-use crate::act::position_of;
+use crate::act::Seat;
 use crate::lie::put_blank;
 use crate::members::Members;
 use crate::place::{NodeCore, Place};
@@ -243,26 +244,22 @@ fn drain(
     drain_each(core, numbers.as_slice(), room, traffic)
 }
 
-/// What waits at the node of a number, if there is one, is drained for each other number and sent.
+/// What waits at a node is drained for each other number and sent.
 pub fn drain_at(
     places: &mut [Place],
-    i: NodeNo,
+    seat: Seat,
     numbers: &Members,
     room: &mut [u8; LONGEST_FRAME],
     traffic: &mut Traffic,
 ) -> Result<(), OutOfMemory>
-    requires rested { (p : Place) → place_at i places.old ≡ Some p → IsRested p.core }
+    requires seat { IsSeat places.old seat }
+    requires rested { (p : Place) → place_at seat.number places.old ≡ Some p → IsRested p.core }
     ensures places { OnOk result
-        (places.new ≡ put_drained numbers.now (place_at i places.old) places.old) }
+        (places.new ≡ put_drained numbers.now (place_at seat.number places.old) places.old) }
     ensures sent { OnOk result
-        (traffic.new ≡ with_frames traffic.old (given_at numbers.now (place_at i places.old))) }
+        (traffic.new ≡ with_frames traffic.old (given_at numbers.now (place_at seat.number places.old))) }
     ensures longer { IsLonger traffic.old.frames traffic.new.frames }
 {
-    match position_of(places, i) {
-        Some(k) => {
-            let place = &mut places[k];
-            drain(&mut place.core, numbers, room, traffic)
-        }
-        None => Ok(()),
-    }
+    let place = &mut places[seat.place];
+    drain(&mut place.core, numbers, room, traffic)
 }

@@ -21,13 +21,13 @@ use xl_core::{CoreAnswer, Deed, Refusal, Taken};
 use xl_sched::Lied;
 use xl_wire::{Body, LONGEST_FRAME};
 
-/// What is told of a frame that came.
-fn told_of(outcome: Result<Taken, Refusal>) -> CoreAnswer
-    ensures { answer_of result ≡ taken_answer outcome }
+/// Tells what came of a frame, in its place at once: an answer is large.
+fn tell_taken(outcome: Result<Taken, Refusal>, answer: &mut CoreAnswer)
+    ensures { answer_of answer.new ≡ taken_answer outcome }
 {
     match outcome {
-        Ok(taken) => CoreAnswer::Took(taken),
-        Err(why) => CoreAnswer::Refused(why),
+        Ok(taken) => *answer = CoreAnswer::Took(taken),
+        Err(why) => *answer = CoreAnswer::Refused(why),
     }
 }
 
@@ -138,7 +138,7 @@ impl Place {
         answer.said = None;
         answer.report = None;
         answer.relisted = false;
-        answer.told = told_of(self.core.frame_saying(now, from, body));
+        tell_taken(self.core.frame_saying(now, from, body), &mut answer.told);
         take_report(&mut self.core, &mut answer.report);
     }
 

@@ -8,6 +8,18 @@
 //! It stands on xl_core, xl_lists, xl_tags and xl_sched. Its one contract: each event is the world's steps, so the
 //! world is a run from its plan, and two honest nodes whose quorums are enough never report different ledgers of one
 //! sequence.
+//!
+//! Nodes 1 and 2 trust each other, both quorums are 2, and each issues its validation of one ledger:
+//!
+//! ```
+//! let mut world = World::open(alloc, &plan)?;
+//! world.event(&issue(one))?;
+//! world.event(&issue(two))?;
+//! assert_eq!(world.sent().len(), 2);
+//! let told = world.event(&Event { at: 1_000, what: What::All })?;
+//! assert_eq!(told.as_slice(), &[full(one), full(two)]); // each reports it
+//! assert!(world.agreement(one, two));
+//! ```
 #![tactic(auto)]
 
 mod act;

@@ -1,13 +1,12 @@
 // The nodes of a world, and each event of a schedule in it.
-ghost use Rattle.xl_world.specs.Schedule.{event_asked, failing, node_asked};
-ghost use Rattle.xl_world.specs.Seen.{MayDo, deed_event};
-ghost use Rattle.std.specs.Prelude.{◌≡◌, ◌≤◌};
-ghost use Rattle.xl_base.specs.Moments.{greatest_millis};
+ghost use Rattle.std.specs.Prelude.{◌≡◌};
+ghost use Rattle.xl_world.specs.Schedule.{failing};
 
+mod asking;
 mod handing;
 mod reopening;
 
-use crate::act::{NodeAnswer, core_at, position_of, preferred_at};
+use crate::act::{NodeAnswer, Seat, core_at, position_of, preferred_at};
 use crate::draining::drain_at;
 use crate::extent::Extent;
 use crate::members::Members;
@@ -20,7 +19,7 @@ use std::marker::Model;
 use xl_base::{Millis, NodeNo, OutOfMemory};
 use xl_core::Deed;
 use xl_lists::SaidLedger;
-use xl_sched::{Ask, What};
+use xl_sched::What;
 use xl_wire::LONGEST_FRAME;
 
 /// The nodes of a world, and all that they ever sent, said and reported. A call that runs out of memory may leave it in
@@ -60,9 +59,9 @@ impl Network {
     ghost use Rattle.xl_world.specs.Emptying.{event_steps};
     ghost use Rattle.xl_world.specs.Ends.{Grows, cut_back, extent_of};
     ghost use Rattle.xl_world.specs.Rested.{IsAtRest, IsRested};
-    ghost use Rattle.xl_world.specs.Schedule.{IsPlausible, ask_steps, greet_steps, outcomes_at, steps_at, timers, told_in};
+    ghost use Rattle.xl_world.specs.Schedule.{IsPlausible, outcomes_at, steps_at, told_in};
+    ghost use Rattle.xl_world.specs.Stands.{IsSeat};
     ghost use Rattle.xl_world.specs.Seen.{MayDo, deed_event, after_note, outcomes_told, with_forged};
-    ghost use Rattle.xl_world.specs.declared.place.Fate.TheVariants.{Saved};
 
     /// The network of a plan, at its start.
     pub fn open(alloc: Global, plan: &Plan) -> Result<Network, OutOfMemory>
@@ -91,22 +90,24 @@ impl Network {
     /// What came of what happened at a node is told and noted, and what waits at it is drained and sent.
     fn settle(
         &mut self,
-        i: NodeNo,
+        seat: Seat,
         answer: &NodeAnswer,
         told: &mut Vec<Outcome>,
     ) -> Result<(), OutOfMemory>
-        requires rested { (p : _) → place_at i self.old.places ≡ Some p → IsRested p.core }
-        ensures world { OnOk result (self.new ≡ after_note self.old i answer.now) }
-        ensures told { OnOk result (told.new.items ≡ told.old.items ++ outcomes_told i answer.now) }
+        requires seat { IsSeat self.old.places seat }
+        requires rested { (p : _) → place_at seat.number self.old.places ≡ Some p → IsRested p.core }
+        ensures world { OnOk result (self.new ≡ after_note self.old seat.number answer.now) }
+        ensures told { OnOk result (told.new.items ≡ told.old.items ++ outcomes_told seat.number answer.now) }
         ensures grows { Grows self.old self.new }
     {
+        let i = seat.number;
         tell(told, i, answer)?;
         push_some(&mut self.said, answer.said)?;
         note_report(&mut self.reports, &self.places, i, &answer.report)?;
         note_list(&mut self.lists, &self.places, i, answer.relisted)?;
         drain_at(
             &mut self.places,
-            i,
+            seat,
             &self.numbers,
             &mut self.room,
             &mut self.traffic,
@@ -135,72 +136,11 @@ impl Network {
         };
         let place = &mut self.places[k];
         place.happens(deed, fate, answer);
-        self.settle(i, answer, told)
-    }
-
-    /// A node is asked something, and its save, if any, meets a fate.
-    fn ask(
-        &mut self,
-        at: Millis,
-        ask: &Ask,
-        fate: Fate,
-        answer: &mut NodeAnswer,
-        told: &mut Vec<Outcome>,
-    ) -> Result<(), OutOfMemory>
-        requires moment { at ≤ greatest_millis }
-        requires rest { IsAtRest self.old }
-        ensures world { OnOk result (self.new ≡ run self.old (ask_steps self.old at ask.now fate)) }
-        ensures told { OnOk result (told.new.items
-            ≡ told.old.items ++ told_in self.old (ask_steps self.old at ask.now fate)) }
-        ensures grows { Grows self.old self.new }
-    {
-        let (node, deed) = asked_by(at, ask);
-        self.act(node, &deed, fate, answer, told)
-    }
-
-    /// A timer comes to each node, by rising number.
-    fn timers(
-        &mut self,
-        at: Millis,
-        answer: &mut NodeAnswer,
-        told: &mut Vec<Outcome>,
-    ) -> Result<(), OutOfMemory>
-        requires moment { at ≤ greatest_millis }
-        requires rest { IsAtRest self.old }
-        ensures world { OnOk result (self.new ≡ run self.old (timers self.old at self.old.numbers)) }
-        ensures told { OnOk result (told.new.items
-            ≡ told.old.items ++ told_in self.old (timers self.old at self.old.numbers)) }
-        ensures grows { Grows self.old self.new }
-    {
-        for k in 0..self.numbers.as_slice().len() {
-            let node = self.numbers.as_slice()[k];
-            self.ask(at, &Ask::Timer { node }, Fate::Saved, answer, told)?;
-        }
-        Ok(())
-    }
-
-    /// A node greets another, which is this deed; itself it doesn't greet.
-    fn greet(
-        &mut self,
-        node: NodeNo,
-        peer: NodeNo,
-        deed: &Deed<'_>,
-        answer: &mut NodeAnswer,
-        told: &mut Vec<Outcome>,
-    ) -> Result<(), OutOfMemory>
-        requires deed { deed.now ≡ Deed.Greet peer }
-        requires rest { IsAtRest self.old }
-        ensures world { OnOk result (self.new ≡ run self.old (greet_steps self.old node peer)) }
-        ensures told { OnOk result (told.new.items
-            ≡ told.old.items ++ told_in self.old (greet_steps self.old node peer)) }
-        ensures grows { Grows self.old self.new }
-    {
-        if node == peer {
-            return Ok(());
-        }
-        // A member's number, for which there is a key.
-        let _number = peer.get();
-        self.act(node, deed, Fate::Saved, answer, told)
+        let seat = Seat {
+            number: i,
+            place: k,
+        };
+        self.settle(seat, answer, told)
     }
 
     /// Something happens at a moment. What is told of it comes after what was told, and the answer is the one place into
@@ -220,11 +160,7 @@ impl Network {
         ensures grows { Grows self.old self.new }
     {
         match what {
-            // As `ask`, without its call: this comes most often.
-            What::Ask(ask) => {
-                let (node, deed) = asked_by(at, ask);
-                self.act(node, &deed, Fate::Saved, answer, told)
-            }
+            What::Ask(ask) => self.ask(at, ask, Fate::Saved, answer, told),
             What::Timers => self.timers(at, answer, told),
             What::Submit { node, tx } => {
                 let deed = Deed::Submit { now: at, tx: *tx };
@@ -249,10 +185,7 @@ impl Network {
             What::Lie { from, to, what } => self.lie(at, *from, *to, what, answer, told),
             What::Raw { to, bytes } => self.hand_in(at, *to, bytes.as_slice(), answer, told),
             What::Prefer { node } => push_some(told, preferred_at(&self.places, *node)),
-            What::List { node, list } => {
-                let deed = Deed::Relist { now: at, list };
-                self.act(*node, &deed, Fate::Saved, answer, told)
-            }
+            What::List { node, list } => self.relist(at, *node, list, answer, told),
             What::Heard { node } => tell_heard_at(told, &self.places, *node),
         }
     }
@@ -308,30 +241,4 @@ fn failing(new: bool) -> Fate
     ensures { result ≡ failing new }
 {
     if new { Fate::Written } else { Fate::Unwritten }
-}
-
-/// The node that is asked, and what then happens at it.
-fn asked_by(at: Millis, ask: &Ask) -> (NodeNo, Deed<'_>)
-    requires moment { at ≤ greatest_millis }
-    ensures node { result.0 ≡ node_asked ask.now }
-    ensures deed { (i : _) → deed_event i result.1 ≡ event_asked at ask.now }
-    ensures may { (me : _) → MayDo me result.1 }
-{
-    match *ask {
-        Ask::Issue {
-            node,
-            seq,
-            id,
-            full,
-        } => {
-            let deed = Deed::Issue {
-                now: at,
-                seq,
-                id,
-                full,
-            };
-            (node, deed)
-        }
-        Ask::Timer { node } => (node, Deed::Timer { now: at }),
-    }
 }

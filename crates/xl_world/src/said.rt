@@ -18,13 +18,30 @@ pub enum Said {
 
 impl Said {
     /// What a body says, unless it is a set.
+    // Each answer is written where it is to be: it is large, and one that is joined of several is moved there.
     pub fn of(body: &Body<'_>) -> Option<Said>
         ensures value { IfSome result (λ said. body_said said ≡ body.now) }
         ensures fits { IfSome result (λ said. IsBody (body_said said)) }
     {
-        let said = said_in(body)?;
-        said.fits();
-        Some(said)
+        match body {
+            Body::Proposal(proposal) => {
+                proposal_fits(proposal);
+                return Some(Said::Proposal(*proposal));
+            }
+            Body::Validation(validation) => {
+                validation_fits(validation);
+                return Some(Said::Validation(*validation));
+            }
+            Body::Header(header) => {
+                header_fits(header);
+                return Some(Said::Header(*header));
+            }
+            Body::Tx(tx) => {
+                id_fits(&tx.0);
+                return Some(Said::Tx(*tx));
+            }
+            Body::TxSet(_) => return None,
+        }
     }
 
     /// Whether it is the same as this.
@@ -43,14 +60,15 @@ impl Said {
         self.as_body()
     }
 
+    // As in `of`.
     fn as_body(&self) -> Body<'_>
         ensures { result ≡ body_said self.now }
     {
         match *self {
-            Said::Proposal(proposal) => Body::Proposal(proposal),
-            Said::Validation(validation) => Body::Validation(validation),
-            Said::Header(header) => Body::Header(header),
-            Said::Tx(tx) => Body::Tx(tx),
+            Said::Proposal(proposal) => return Body::Proposal(proposal),
+            Said::Validation(validation) => return Body::Validation(validation),
+            Said::Header(header) => return Body::Header(header),
+            Said::Tx(tx) => return Body::Tx(tx),
         }
     }
 
@@ -64,18 +82,6 @@ impl Said {
             Said::Header(header) => header_fits(header),
             Said::Tx(tx) => id_fits(&tx.0),
         }
-    }
-}
-
-fn said_in(body: &Body<'_>) -> Option<Said>
-    ensures { IfSome result (λ said. body_said said ≡ body.now) }
-{
-    match body {
-        Body::Proposal(proposal) => Some(Said::Proposal(*proposal)),
-        Body::Validation(validation) => Some(Said::Validation(*validation)),
-        Body::Header(header) => Some(Said::Header(*header)),
-        Body::Tx(tx) => Some(Said::Tx(*tx)),
-        Body::TxSet(_) => None,
     }
 }
 

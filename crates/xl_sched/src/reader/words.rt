@@ -27,13 +27,30 @@ impl Reader {
         ensures fit { OnOk result (IfSome said.new (IsFit self.now sent)) }
     {
         if let Some(word) = SettingWord::of(token) {
-            *said = Some(self.setting(word, token, arguments)?);
-            return Ok(());
+            return self.put_setting(word, token, arguments, said);
         }
         match EventWord::of(token) {
             Some(word) => self.event(word, arguments, sent, said),
             None => Err(LineFault::with_text(Cause::Word, token)),
         }
+    }
+
+    /// A line at which nothing happens is put into its place.
+    // It is large, and in the caller's each event would clear a place for it.
+    #[inline(never)]
+    fn put_setting<'a>(
+        &self,
+        word: SettingWord,
+        token: &'a [u8],
+        arguments: Tokens<'a>,
+        said: &mut Option<Line>,
+    ) -> Result<(), LineFault<'a>>
+        ensures value { PutsGivenMemory result said.new
+            (some_line (setting_line self.now word token.now arguments.entry)) }
+        ensures fit { (sent : ℕ) → OnOk result (IfSome said.new (IsFit self.now sent)) }
+    {
+        *said = Some(self.setting(word, token, arguments)?);
+        Ok(())
     }
 
     /// A line at which nothing happens. A declaration comes before the first event.
@@ -92,6 +109,8 @@ impl Reader {
     }
 
     /// It happens at the moment in force.
+    // What happens is large: in the caller's it is written where it is to be, and else it would be moved twice.
+    #[inline(always)]
     pub(super) fn happen(&self, what: What, said: &mut Option<Line>)
         ensures value { said.new ≡ Some (event_at self.now what) }
         ensures fit { (sent : ℕ) → IsFitWhat self.now sent what → IfSome said.new (IsFit self.now sent) }

@@ -14,7 +14,7 @@ ghost use Rattle.xl_world.specs.World.{run};
 
 use super::Network;
 use crate::Outcome;
-use crate::act::{NodeAnswer, position_of};
+use crate::act::{NodeAnswer, Seat, position_of};
 use crate::forged::{is_forged, is_liar};
 use crate::lie::put_lie;
 use crate::place::Fate;
@@ -50,7 +50,11 @@ impl Network {
         };
         let receiver = &mut self.places[k];
         receiver.hears_sent(at, &frame, &mut self.room, answer);
-        self.settle(to, answer, told)
+        let seat = Seat {
+            number: to,
+            place: k,
+        };
+        self.settle(seat, answer, told)
     }
 
     /// The sent frames after the mark are handed to their receivers, and the mark moves to the end.
@@ -130,7 +134,11 @@ impl Network {
         };
         let receiver = &mut self.places[k];
         receiver.hears_lie(at, from, lie, &mut self.room, answer);
-        self.settle(to, answer, told)
+        let seat = Seat {
+            number: to,
+            place: k,
+        };
+        self.settle(seat, answer, told)
     }
 
     /// The frame of a lie is handed to a node, and may be forged: nobody declared its sender as a liar.

@@ -7,9 +7,10 @@ ghost use Rattle.xl_world.specs.Schedule.{outcomes_at, steps_at};
 ghost use Rattle.xl_world.specs.Seen.{put_again, with_places};
 ghost use Rattle.xl_world.specs.World.{place_at, run};
 
-use super::{Network, asked_by};
+use super::Network;
+use super::asking::asked_by;
 use crate::Outcome;
-use crate::act::{NodeAnswer, position_of};
+use crate::act::{NodeAnswer, Seat, position_of};
 use crate::anew::{disk_at, reopen_at};
 use crate::place::{Disk, Fate};
 use xl_base::{Millis, NodeNo, OutOfMemory};
@@ -67,7 +68,11 @@ impl Network {
         match answer.asked {
             Some(seq) => self.reopen(at, node, disk.restored(disk.left_by(new, seq))),
             None => {
-                self.settle(node, answer, told)?;
+                let seat = Seat {
+                    number: node,
+                    place: k,
+                };
+                self.settle(seat, answer, told)?;
                 self.reopen(at, node, disk.restored(disk.found()))
             }
         }

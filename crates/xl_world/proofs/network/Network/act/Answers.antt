@@ -8,6 +8,7 @@ use Rattle.xl_world.specs.Seen.{deed_event}
 use Rattle.xl_world.specs.World.{World}
 use Rattle.xl_world.specs.Worlds.{network_seen}
 use Rattle.xl_world.proofs.Acted.{IsActed, IsFound, found_in, absent, absent_ran, absent_told, acted_ran, acted_rest, acted_told, found_acted, found_may, found_place}
+use Rattle.xl_world.proofs.Seated.{found_seat}
 use Rattle.xl_world.proofs.Acting.{deed_unsent}
 use Rattle.xl_world.proofs.Growing.{grows_from}
 use Rattle.xl_world.proofs.network.Network.act.Goals as goal
@@ -37,6 +38,7 @@ happens-requires-clause-may c =
 pub settle-requires : goal.settle-requires
 settle-requires c =
     let d = (goal.at.settle-requires c).After-happens in record {
+      seat = found_seat c.args.self.now (network_seen c.self.inside) c.args.i d.in-Some.k d.index_mut-place.result.now (λ m. deed_event m c.args.deed.now) c.args.fate d.happens.new.self (found d) d.happens.ensures.place;
       rested = acted_rest c.args.self.now c.args.i (event d) c.args.fate (after d) c.happens.new.answer (acted d) c.requires.rest;
     }
 

@@ -11,6 +11,7 @@ use Rattle.xl_world.specs.Schedule.{steps_at, told_in}
 use Rattle.xl_world.specs.World.{World, Step, place_at, run}
 use Rattle.xl_sched.specs.declared.event.What.TheVariants.{Cut}
 use Rattle.xl_world.proofs.Acted.{IsActed, IsFound, found_in, absent, acted_rest, found_acted, found_place}
+use Rattle.xl_world.proofs.Seated.{found_seat}
 use Rattle.xl_world.proofs.Acting.{deed_unsent}
 use Rattle.xl_world.proofs.Cutting.{any_ok, cuts_none, cuts_nowhere, cuts_torn}
 use Rattle.xl_world.specs.Worlds.{network_seen}
@@ -48,6 +49,7 @@ happens-requires-clause-may c = c.asked_by-node.ensures.may c.index_mut-place.re
 pub settle-requires : goal.settle-requires
 settle-requires c =
     let d = (goal.at.settle-requires c).After-happens in record {
+      seat = found_seat c.args.self.now (network_seen c.self.inside) (number d) d.in-Some.k d.index_mut-place.result.now (λ m. deed_event m c.asked_by-node.result.1) Unwritten d.happens.new.self (found d) d.happens.ensures.place;
       rested = acted_rest c.args.self.now (number d) (event d) Unwritten (after d) c.happens.new.answer (acted d) c.requires.rest;
     }
 

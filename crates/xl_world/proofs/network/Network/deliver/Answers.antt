@@ -12,6 +12,7 @@ use Rattle.xl_world.specs.Schedule.{delivery_of, told_in}
 use Rattle.xl_world.specs.Seen.{with_forged}
 use Rattle.xl_world.specs.World.{World, place_at, run}
 use Rattle.xl_world.proofs.Acted.{IsActed, IsFound, found_in, absent, absent_stays, absent_told, acted_ran, acted_rest, acted_told, found_acted, found_number, found_place}
+use Rattle.xl_world.proofs.Seated.{found_seat}
 use Rattle.xl_world.proofs.Acting.{sent_ran}
 use Rattle.xl_world.proofs.CoreSteps.{frame_plain}
 use Rattle.xl_world.proofs.Places.{found_within}
@@ -49,6 +50,7 @@ hears_sent-requires-clause-mine c =
 pub settle-requires : goal.settle-requires
 settle-requires c =
     let d = (goal.at.settle-requires c).After-hears_sent in record {
+      seat = found_seat c.args.self.now (network_seen c.self.inside) c.to-to.result d.in-Some-position_of.k d.index_mut-receiver.result.now (λ m. event d) Saved d.hears_sent.new.self (found d) d.hears_sent.ensures.place;
       rested = acted_rest c.args.self.now c.to-to.result (event d) Saved (after d) c.hears_sent.new.answer (acted d) c.requires.rest;
     }
 

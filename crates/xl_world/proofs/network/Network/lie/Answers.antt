@@ -14,6 +14,7 @@ use Rattle.xl_world.specs.Seen.{with_forged}
 use Rattle.xl_world.specs.World.{World, run}
 use Rattle.xl_world.specs.Worlds.{network_seen}
 use Rattle.xl_world.proofs.Acted.{IsActed, IsFound, found_in, absent, absent_stays, absent_told, acted_ran, acted_rest, acted_told, found_acted, found_number, found_place}
+use Rattle.xl_world.proofs.Seated.{found_seat}
 use Rattle.xl_world.proofs.Acting.{fair_ran}
 use Rattle.xl_world.proofs.CoreSteps.{frame_plain}
 use Rattle.xl_world.proofs.Growing.{grows_from}
@@ -62,6 +63,7 @@ hears_lie-requires-clause-rested c =
 pub settle-requires : goal.settle-requires
 settle-requires c =
     let d = (goal.at.settle-requires c).After-hears_lie in record {
+      seat = found_seat c.args.self.now (network_seen c.self.inside) c.args.to d.in-Some.k d.index_mut-receiver.result.now (λ m. Frame c.args.at (lied_bytes c.args.from m c.args.lie.now)) Saved d.hears_lie.new.self (found d) d.hears_lie.ensures.place;
       rested = acted_rest c.args.self.now c.args.to (event d) Saved (after d) c.hears_lie.new.answer (acted d) c.requires.rest;
     }
 

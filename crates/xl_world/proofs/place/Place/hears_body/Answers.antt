@@ -35,7 +35,7 @@ returns-clause-answer c = λ bytes carries.
     let did = c.frame_saying.ensures.carried bytes carries.0 carries.1 carries.2 in
     let r = reply_at place (Frame c.args.now bytes) Saved in
     record {
-      told = c.told_of-answer.ensures ∙ did.answer;
+      told = c.tell_taken.ensures ∙ did.answer;
       asked = refl;
       said = ap (option_map (said_by place.core.node.me)) (sym (frame_quiet place.core.node c.args.now bytes));
       report = report_left c.frame_saying.new.self r c.take_report.new.report (untaken_is place.core.untaken r.report c.requires.rested.untaken) did.core c.take_report.ensures.report;
