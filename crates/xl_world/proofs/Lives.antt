@@ -85,13 +85,8 @@ unmapped P from to [] each = All-nil (BytesSay P)
 unmapped P from to (x ∷ xs) each = All-cons (BytesSay P) x xs (All-head (FrameSays P) _ _ each) (unmapped P from to xs (All-tail (FrameSays P) _ _ each))
 
 given_of : (P : SaidLedger → Type 0) (from : ℕ) (a : Answer) → All (FrameSays P) (sent_in from a) → All (BytesSay P) (given_in a)
-given_of P from (Refused why) each = All-nil (BytesSay P)
-given_of P from (Took taken) each = All-nil (BytesSay P)
-given_of P from (Beats beat) each = All-nil (BytesSay P)
-given_of P from Done each = All-nil (BytesSay P)
 given_of P from (Gave to frames) each = unmapped P from to frames each
-given_of P from (Handed reports) each = All-nil (BytesSay P)
-given_of P from (Told stopped) each = All-nil (BytesSay P)
+given_of P from other each = All-nil (BytesSay P)
 
 -- if it is of the node's own number
 abbrev OwnSays : (SaidLedger → Type 0) → ℕ → SaidLedger → Type 0
