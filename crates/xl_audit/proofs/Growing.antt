@@ -1,5 +1,5 @@
 -- What is written of a journal's text, as it grows.
-use Rattle.std.proofs.Common.{◌≡◌, ◌≤◌, ◌++◌, ℕ, List, [], ◌∷◌, Option, Some, None, Result, Ok, Err, refl, sym, ap, ◌∙◌, subst, append_assoc, arith, length-append}
+use Rattle.std.proofs.Common.{◌≡◌, ◌++◌, ℕ, List, [], ◌∷◌, Option, Some, None, Result, Ok, Err, refl, sym, ap, ◌∙◌, subst, append_assoc, arith, length-append}
 use Rattle.std.specs.Prelude.{OnOk, IfNone}
 use Rattle.std.specs.Io.KnownBytes.{append_known}
 use Rattle.xl_io.specs.Sinks.{GrewByFront, GrewByLess}

@@ -12,8 +12,8 @@ use Rattle.xl_audit.specs.declared.judging.Stage.{Stage}
 use Rattle.xl_audit.specs.declared.judging.Stage.TheVariants.{Heading, Setting, Keying, Judging}
 use Rattle.xl_audit.specs.declared.opening.Opening.{Opening}
 use Rattle.xl_audit.specs.declared.written.Written.{Written}
-use Rattle.xl_audit.specs.Auditing.{Step, refuses, entry_step, judgement, keyed, keying_step, judging_step, opening_step, step}
-use Rattle.xl_audit.specs.Leading.{Lead, leads, tells, read_lead, entry_lead, opening_lead, keying_lead, judging_lead, lead, judged_lead, StepIsLed, IsAskedIn}
+use Rattle.xl_audit.specs.Auditing.{Step, refuses, judgement, keyed, opening_step}
+use Rattle.xl_audit.specs.Leading.{Lead, leads, read_lead, entry_lead, opening_lead, lead, judged_lead, StepIsLed, IsAskedIn}
 use Rattle.xl_audit.specs.Opening.{core_of, key_in, unmet}
 use Rattle.xl_audit.specs.Reading.{entry_in}
 use Rattle.xl_audit.specs.Rights.{IsAsked}

@@ -3,13 +3,13 @@ use Rattle.std.proofs.Common.{◌≡◌, ◌≢◌, ◌+◌, ◌-◌, ◌<◌, �
 use Rattle.std.specs.Prelude.{All, IfSome, IsSome, OnOk, is_some, find}
 use Rattle.std.specs.List.{range_with_len, flat_map}
 use Rattle.std.specs.Str.{bytes_eq}
-use Rattle.std.proofs.lemmas.Bool.{and_parts, cond-false, cond-true, le-ltb, lt-ltb, not-true, ne_eqb, eqb-true}
+use Rattle.std.proofs.lemmas.Bool.{cond-false, cond-true, le-ltb, lt-ltb, ne_eqb, eqb-true}
 use Rattle.std.proofs.lemmas.Bool.Decides.{nat_tests}
 use Rattle.std.proofs.lemmas.List.{length-append}
 use Rattle.std.proofs.lemmas.List.Elements.{All-head, All-tail}
 use Rattle.xl_lists.specs.Lists.{is_on}
 use Rattle.xl_lines.specs.declared.machine.Verdict.TheVariants.{Good}
-use Rattle.xl_lines.specs.Lines.{Line, lines_of, onto}
+use Rattle.xl_lines.specs.Lines.{Line, lines_of}
 use Rattle.xl_lines.specs.Rules.{Told, closes}
 use Rattle.xl_lines.specs.Told.{told_by, told_from}
 use Rattle.xl_tags.specs.Opening.{HasKeys}

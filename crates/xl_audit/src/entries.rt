@@ -159,7 +159,7 @@ fn told_entry<'a>(
     ensures { GivenMemory result (told_behind keys.now word args.now behind.now) }
 {
     let event = event(alloc, keys, word, args)?;
-    let outcome = outcome(behind.first(), behind.at(1))?;
+    let outcome = outcome(behind)?;
     let reply = reply(&behind.after(outcome_len(&outcome)))?;
     Ok(ReadEntry {
         entry: Entry { event, outcome },
@@ -187,6 +187,7 @@ fn are_too_few(behind: &Words<'_>) -> bool
 }
 
 /// How many tokens a line has is refused.
+#[inline(never)]
 fn miscounted<'a>(args: &Words<'a>) -> LineFault<'a>
     ensures { result ≡ Count (decimal (length args.now + 1)) }
 {
@@ -220,7 +221,7 @@ fn relist_entry<'a>(
     let now = moment(args.at(0))?;
     let quorum = number(args.at(1))?;
     let members = member_numbers(alloc, args.at(2))?;
-    let outcome = outcome(behind.first(), behind.at(1))?;
+    let outcome = outcome(behind)?;
     let reply = reply(&behind.after(outcome_len(&outcome)))?;
     let event = CoreEvent::Relist {
         now,
@@ -233,6 +234,7 @@ fn relist_entry<'a>(
 }
 
 /// The entry by which a list changes, where its tokens are enough.
+#[inline(never)]
 fn counted_relist<'a>(alloc: Global, args: &Words<'a>) -> Result<ReadEntry<'a>, LineFault<'a>>
     ensures { GivenMemory result (counted_relist args.now) }
 {

@@ -198,6 +198,7 @@ fn judging<'a>(alloc: Global, auditor: &Auditor, words: &Words<'a>) -> Result<Le
 }
 
 /// What a line before the first entry leads to, and the stage then.
+#[inline(never)]
 fn opening<'a>(
     alloc: Global,
     stage: Stage,

@@ -63,6 +63,7 @@ pub enum Lead<'a> {
 }
 
 /// A line is refused.
+#[inline(never)]
 pub fn refused(alloc: Global, fault: LineFault<'_>) -> Result<BadLine, OutOfMemory>
     ensures { IfOk result (IsRefused fault.entry) }
 {

@@ -4,8 +4,10 @@ ghost use Rattle.xl_base.specs.Moments.{greatest_millis};
 ghost use Rattle.xl_sched.specs.Refusals.{GivenMemory};
 ghost use Rattle.xl_audit.specs.Saves.{IsCounted};
 ghost use Rattle.xl_audit.specs.Tokens.{bytes_of, id_of, moment_of, number_from as number_of_64, outcome_of, peer_of, yes_of};
+ghost use Rattle.xl_audit.specs.Words.{word_at};
 
 use crate::digits::decode;
+use crate::words::Words;
 use std::alloc::Global;
 use xl_base::{Bytes, GREATEST_MILLIS, Millis, NodeNo};
 use xl_sched::{Cause, LineFault, member, number_within};
@@ -83,17 +85,18 @@ pub fn peer<'a>(keys: &Keys, token: &'a [u8]) -> Result<NodeNo, LineFault<'a>>
     }
 }
 
-/// How a save was answered, by this token and the next.
-pub fn outcome<'a>(how: &'a [u8], count: &'a [u8]) -> Result<Option<Saved>, LineFault<'a>>
-    ensures value { result ≡ outcome_of how.now count.now }
+/// How a save was answered, by the first of these tokens, and by the next one if it failed.
+pub fn outcome<'a>(words: &Words<'a>) -> Result<Option<Saved>, LineFault<'a>>
+    ensures value { result ≡ outcome_of (word_at words.now 0) (word_at words.now 1) }
     ensures counted { IfOk result IsCounted }
 {
+    let how = words.at(0);
     if how == b"-".as_slice() {
         Ok(None)
     } else if how == b"ok".as_slice() {
         Ok(Some(Saved::Ok))
     } else if how == b"failed".as_slice() {
-        Ok(Some(Saved::Failed(number_from(count, 1)?)))
+        Ok(Some(Saved::Failed(number_from(words.at(1), 1)?)))
     } else {
         Err(LineFault::with_text(Cause::Choice, how))
     }

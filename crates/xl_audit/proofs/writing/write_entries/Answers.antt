@@ -1,13 +1,11 @@
 -- what was written, before the lines of the entries left, is the whole text, and the next of legal entries is allowed
-use Rattle.std.proofs.Common.{◌≡◌, ◌∙◌, List, [], sym, subst, arith, refl}
+use Rattle.std.proofs.Common.{◌≡◌, ◌∙◌, [], sym, subst, arith, refl}
 use Rattle.std.specs.Prelude.{All}
 use Rattle.std.proofs.lemmas.List.Elements.{All-cons, All-nil}
-use Rattle.xl_io.proofs.Growing.{Written, written_none, front_of_written, all_written}
+use Rattle.xl_io.proofs.Growing.{written_none, front_of_written, all_written}
 use Rattle.xl_lines.proofs.Runs.{write_from, passed_on, ok_exact}
-use Rattle.xl_turns.specs.Histories.{IsLegal}
 use Rattle.xl_core.specs.Core.{Core}
-use Rattle.xl_store.specs.declared.entry.Entry.{Entry}
-use Rattle.xl_store.specs.Entries.{Leads, reply_of}
+use Rattle.xl_store.specs.Entries.{reply_of}
 use Rattle.xl_audit.specs.Journals.{entries_text}
 use Rattle.xl_audit.specs.Stored.{IsStored}
 use Rattle.xl_audit.proofs.Growing.{next_allowed, next_outcome, later_legal, line_of, next_written, last_written, none_left, piece_written, piece_front, piece_less, caused_later, caused_none}

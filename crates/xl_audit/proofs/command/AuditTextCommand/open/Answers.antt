@@ -1,5 +1,5 @@
 -- an audit says something at each of its ends
-use Rattle.std.proofs.Common.{ℕ, List, ap, ◌∙◌}
+use Rattle.std.proofs.Common.{ap, ◌∙◌}
 use Rattle.xl_lines.specs.Told.{told_of}
 use Rattle.xl_lines.specs.Soon.{told_soon}
 use Rattle.xl_lines.proofs.Aloud.{told_at-aloud}
