@@ -359,6 +359,9 @@ module _ (start : Core) (to room : ℕ) (now after : Core) (left part count : �
 
 -- REPORTS SO FAR
 
+pub handing_begun : (start : Core) (room : ℕ) → HasHanded start room start room []
+handing_begun start room = record { reports = refl; core = refl }
+
 module _ (start : Core) (room : ℕ) (now after : Core) (left part : ℕ) (given more : List Report)
     (so_far : HasHanded start room now left given) (is : after ≡ handed_out now part)
     (adds : more ≡ given ++ take part now.untaken.items) where
