@@ -153,6 +153,25 @@ def forked(ledgers):
     return journal(1, range(1, 35), ledgers, '1') + journal(40, range(7, 41), ledgers, '2')
 
 
+ENTRIES_OF_FIVE = 16  # of a ledger: a timer, an issue, eight drains, four frames, and two takings of reports
+
+
+def entries(count):
+    """The journal of one of five nodes, of so many entries. Of each ledger it issues a validation, hands it to the others,
+    hears theirs, and reports the ledger."""
+    others = range(2, 6)
+    made = ['xl-journal 1', 'settings 1 4 1,2,3,4,5 16384 yes 1 1000 0']
+    made += ['key %d %s' % (it, pair_key(1, it).hex()) for it in others]
+    for seq in range(1, count // ENTRIES_OF_FIVE + 1):
+        ledger = '%064x' % seq
+        made += ['timer 1000 - = nothing', 'reports 1024 - = 0', 'issue 1000 %d %s full ok = ok' % (seq, ledger)]
+        made += ['drain %d 8240 - = %s' % (it, validation(1, it, seq, ledger)) for it in others]
+        made += ['drain %d 8240 - = -' % it for it in others]
+        made += ['frame 1000 %s - = vote' % validation(it, 1, seq, ledger) for it in others]
+        made.append('reports 1024 - = 1 %d %s' % (seq, ledger))
+    return ''.join(line + '\n' for line in made)
+
+
 # a validation of x by member 2 for member 1, version 1, with its tag
 FORGED = (
     'raw 1 584c01020029000000020000000111111111111111111111111111111111111111111111111111111111111111110000000100000001'
