@@ -113,11 +113,8 @@ place_sends from (Ok became) = refl
 place_sends from (Err why) = refl
 
 taking_plain : (n : Node) (from : ℕ) (what : Speech) → IsPlain (taken_reply n from what)
-taking_plain n from (speech.Validation v) = record { items = refl; sent = λ _. refl }
-taking_plain n from (speech.Header h) = record { items = refl; sent = λ _. refl }
 taking_plain n from (speech.Proposal p) = record { items = refl; sent = λ me. place_sends me (proposal_answer n from p) }
-taking_plain n from (speech.TxSet ids) = record { items = refl; sent = λ _. refl }
-taking_plain n from (speech.Tx tx) = record { items = refl; sent = λ _. refl }
+taking_plain n from other = record { items = refl; sent = λ _. refl }
 
 issuing_plain : (n : Node) (seq : ℕ) (id : LedgerId) (full : Bool) (save : Save) → IsPlain (issuing_reply n seq id full save)
 issuing_plain n seq id full save =

@@ -203,16 +203,9 @@ said_so core i deed.Stopped save = refl
 -- the list that was set
 pub set_so : (core : Core) (i : ℕ) (d : Deed) (save : Save) → let r : CoreReply = core_happens core (deed_event i d) save in
     (if is_relisted d r.answer then Some (list_now r.core.node) else None) ≡ set_by core.node.me (deed_event i d) r.answer
-set_so core i (deed.Issue now seq id full) save = refl
-set_so core i (deed.Frame now bytes) save = refl
-set_so core i (deed.Sealed now bytes) save = refl
-set_so core i (deed.Timer now) save = refl
-set_so core i (deed.Submit now tx) save = refl
-set_so core i (deed.Greet peer) save = refl
 set_so core i (deed.Relist now list) save =
     relist_either (λ r. (if is_relisted (deed.Relist now list) r.answer then Some (list_now r.node) else None) ≡ set_by core.node.me (Relist now list.now) r.answer) (at_moment now core.node) list.now (λ _. refl) (λ _. refl)
-set_so core i deed.Stop save = refl
-set_so core i deed.Stopped save = refl
+set_so core i other save = refl
 
 -- THE REPORT THAT IS LEFT
 

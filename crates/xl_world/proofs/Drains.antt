@@ -7,6 +7,7 @@ use Rattle.std.proofs.lemmas.Bool.Decides.{nat_tests}
 use Rattle.std.proofs.lemmas.List.{drop-drop, drop_at, length-drop, length-take, nil_from_length, take_at, take_more}
 use Rattle.std.proofs.lemmas.List.Elements.{All-append, All-cons, All-head, All-nil, All-tail}
 use Rattle.xl_wire.specs.Frames.{raw_of}
+use Rattle.xl_wire.specs.declared.lengths.TheConstants.{AROUND, HEAD}
 use Rattle.xl_wire.specs.Heads.{head_refusal, lacking, length_in, raw_in, split_of, split_unless}
 use Rattle.xl_wire.specs.Heads.Split.{Whole}
 use Rattle.xl_wire.specs.Kinds.{span}
@@ -124,26 +125,21 @@ part_whole (Some why) lack raw f is = absurd cc
 part_whole None (suc lack) raw f is = absurd cc
 part_whole None zero raw f is = (refl, cc)
 
-pub whole_long : (bytes : List ℕ) (f : RawFrame) → split_of bytes ≡ Whole f → (46 + length_in bytes ≤ length bytes) × (span f.body ≡ 46 + length_in bytes)
+pub whole_long : (bytes : List ℕ) (f : RawFrame) → split_of bytes ≡ Whole f → (AROUND + length_in bytes ≤ length bytes) × (span f.body ≡ AROUND + length_in bytes)
 whole_long bytes f is =
     let both = part_whole (head_refusal bytes) (lacking bytes) (raw_in bytes) f is in
-    let fits : 46 + length_in bytes ≤ length bytes = long_enough (length bytes) (length_in bytes) both.0 in (
+    let fits : AROUND + length_in bytes ≤ length bytes = long_enough (length bytes) (length_in bytes) both.0 in (
       fits,
-      ap (λ (g : RawFrame). span g.body) (sym both.1) ∙ omega (arith, fits, length-take (length_in bytes) (drop 14 bytes), length-drop 14 bytes),
+      ap (λ (g : RawFrame). span g.body) (sym both.1) ∙ omega (arith, fits, length-take (length_in bytes) (drop HEAD bytes), length-drop HEAD bytes),
     )
   where
-    long_enough : (n k : ℕ) → (if nat_lt n 6 then 6 - n else 46 + k - n) ≡ 0 → 46 + k ≤ n
+    long_enough : (n k : ℕ) → (if nat_lt n 6 then 6 - n else AROUND + k - n) ≡ 0 → AROUND + k ≤ n
     long_enough n k none = grind (arith, nat_tests)
 
 -- the two bytes of that length
 pub length_there : (bytes : List ℕ) → 6 ≤ length bytes → length_in bytes ≡ get_or bytes 4 0 * 256 + get_or bytes 5 0
-length_there [] long = absurd (omega (arith, long))
-length_there (a ∷ []) long = absurd (omega (arith, long))
-length_there (a ∷ b ∷ []) long = absurd (omega (arith, long))
-length_there (a ∷ b ∷ c ∷ []) long = absurd (omega (arith, long))
-length_there (a ∷ b ∷ c ∷ d ∷ []) long = absurd (omega (arith, long))
-length_there (a ∷ b ∷ c ∷ d ∷ e ∷ []) long = absurd (omega (arith, long))
 length_there (a ∷ b ∷ c ∷ d ∷ e ∷ f ∷ bytes) long = omega arith
+length_there other long = absurd (omega (arith, long))
 
 -- the next one is sent
 pub unsent_more : (from to : ℕ) (each : List (List ℕ)) (before now after : Traffic) (rest bytes : List ℕ) (n : ℕ) → IsUnsent from to each before rest now →

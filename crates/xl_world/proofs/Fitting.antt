@@ -121,21 +121,8 @@ module _ (P : CoreEvent → Type 0) (of_all : OfAll P) where
 -- FIT
 
 of_plausible : (at : ℕ) (happening : What) → IsPlausible happening → OfList IsFitEvent at happening
-of_plausible at (what.Ask a) plausible = tt
-of_plausible at what.Timers plausible = tt
-of_plausible at (what.Submit node tx) plausible = tt
-of_plausible at (what.Greet node peer) plausible = tt
-of_plausible at (what.Deliver place) plausible = tt
-of_plausible at what.All plausible = tt
-of_plausible at what.Drop plausible = tt
-of_plausible at (what.Restart node) plausible = tt
-of_plausible at (what.Cut new a) plausible = tt
-of_plausible at (what.Fail new a) plausible = tt
-of_plausible at (what.Lie from to lie) plausible = tt
-of_plausible at (what.Raw to bytes) plausible = tt
-of_plausible at (what.Prefer node) plausible = tt
 of_plausible at (what.List node list) plausible = plausible
-of_plausible at (what.Heard node) plausible = tt
+of_plausible at other plausible = tt
 
 does_fit : (s : Step) → Does IsFitEvent s → IsFit s
 does_fit (Act i e fate) fit = fit

@@ -20,7 +20,7 @@ use Rattle.xl_world.specs.declared.sent.KeptFrame.TheVariants as frame
 use Rattle.xl_world.specs.Forgeries.{was_sent}
 use Rattle.xl_world.specs.Indexes.{is_at, is_bytes}
 use Rattle.xl_world.specs.Ends.{IsLonger}
-use Rattle.xl_world.specs.Sending.{Sent, address_in, with_address, body_said, said_to, sent_as}
+use Rattle.xl_world.specs.Sending.{Sent, address_in, address_place, with_address, body_said, said_to, sent_as}
 use Rattle.xl_world.specs.Worlds.{IsKeptAt, IsPlace, IsWithin, frame_in, frame_of_place, kept_seen, said_there}
 
 -- MORE BYTES, AND MORE THAT IS SAID
@@ -88,18 +88,18 @@ within_more new kept p there long short = (omega (arith, there.0, long), omega (
 pub kept_there : (bytes kept : List ℕ) (begins n : ℕ) → begins + n ≤ length bytes → ((a : ℕ) → with_address a (take n (drop begins bytes)) ≡ with_address a kept) → IsKeptAt bytes begins kept
 kept_there bytes kept begins n within same =
     let long : n ≡ length kept =
-    omega (arith, ap length (same 0), length-set (take n (drop begins bytes)) 13 0, length-set kept 13 0, length-take n (drop begins bytes), length-drop begins bytes, within) in (
+    omega (arith, ap length (same 0), length-set (take n (drop begins bytes)) address_place 0, length-set kept address_place 0, length-take n (drop begins bytes), length-drop begins bytes, within) in (
       omega (arith, within, long),
-      ap (λ (m : ℕ). with_address (address_in kept) (take m (drop begins bytes))) (sym long) ∙ same (address_in kept) ∙ set-get_or kept 13 0,
+      ap (λ (m : ℕ). with_address (address_in kept) (take m (drop begins bytes))) (sym long) ∙ same (address_in kept) ∙ set-get_or kept address_place 0,
     )
 
 -- two frames are the same but for their addresses, if they are before it and behind it
-pub same_addressed : (one other : List ℕ) → length one ≡ length other → 13 < length one → take 13 one ≡ take 13 other → drop 14 one ≡ drop 14 other → (a : ℕ) → with_address a one ≡ with_address a other
+pub same_addressed : (one other : List ℕ) → length one ≡ length other → address_place < length one → take address_place one ≡ take address_place other → drop (address_place + 1) one ≡ drop (address_place + 1) other → (a : ℕ) → with_address a one ≡ with_address a other
 same_addressed one other long some before behind a =
-    set_split one 13 a some
-    ∙ ap (λ (xs : List ℕ). xs ++ a ∷ drop 14 one) before
-    ∙ ap (λ (xs : List ℕ). take 13 other ++ a ∷ xs) behind
-    ∙ sym (set_split other 13 a (omega (arith, some, long)))
+    set_split one address_place a some
+    ∙ ap (λ (xs : List ℕ). xs ++ a ∷ drop (address_place + 1) one) before
+    ∙ ap (λ (xs : List ℕ). take address_place other ++ a ∷ xs) behind
+    ∙ sym (set_split other address_place a (omega (arith, some, long)))
 
 -- an address that is written in front of other bytes
 pub take_set : {X : Type 0} → (n : ℕ) (xs : List X) (i : ℕ) (x : X) → take n (set xs i x) ≡ set (take n xs) i x
@@ -108,8 +108,8 @@ take_set (suc n) [] i x = refl
 take_set (suc n) (y ∷ ys) zero x = refl
 take_set (suc n) (y ∷ ys) (suc i) x = ap (λ zs. y ∷ zs) (take_set n ys i x)
 
-pub put_front : (kept rest : List ℕ) (address : ℕ) → take (length kept) (set (kept ++ rest) 13 address) ≡ with_address address kept
-put_front kept rest address = take_set (length kept) (kept ++ rest) 13 address ∙ ap (λ (xs : List ℕ). set xs 13 address) (take_at kept rest (length kept) refl)
+pub put_front : (kept rest : List ℕ) (address : ℕ) → take (length kept) (set (kept ++ rest) address_place address) ≡ with_address address kept
+put_front kept rest address = take_set (length kept) (kept ++ rest) address_place address ∙ ap (λ (xs : List ℕ). set xs address_place address) (take_at kept rest (length kept) refl)
 
 pub seen_so : (f g : Sent) (bytes : List ℕ) → g ≡ f → g.bytes ≡ bytes_as_sealed (schedule_ring g.to) bytes → f ≡ sent_as f.from f.to bytes
 seen_so f g bytes is so =

@@ -22,7 +22,7 @@ use Rattle.xl_core.specs.declared.hearing.Speech.TheVariants as speech
 use Rattle.xl_core.specs.declared.hearing.Spoken.{Spoken}
 use Rattle.xl_core.specs.declared.refusal.Refusal.{Refusal}
 use Rattle.xl_core.specs.declared.report.Report.{Report}
-use Rattle.xl_core.specs.Answers.{Answer, Refused, Took, Beats, Done, Gave, Handed, Told, given_in}
+use Rattle.xl_core.specs.Answers.{Answer, Gave, given_in}
 use Rattle.xl_core.specs.Core.{Core, CoreReply, core_happens}
 use Rattle.xl_core.specs.CoreLives.{CoreHappening, given_over}
 use Rattle.xl_core.specs.Hearing.{spoken_in}
@@ -85,13 +85,8 @@ unmapped P from to [] each = All-nil (BytesSay P)
 unmapped P from to (x ∷ xs) each = All-cons (BytesSay P) x xs (All-head (FrameSays P) _ _ each) (unmapped P from to xs (All-tail (FrameSays P) _ _ each))
 
 given_of : (P : SaidLedger → Type 0) (from : ℕ) (a : Answer) → All (FrameSays P) (sent_in from a) → All (BytesSay P) (given_in a)
-given_of P from (Refused why) each = All-nil (BytesSay P)
-given_of P from (Took taken) each = All-nil (BytesSay P)
-given_of P from (Beats beat) each = All-nil (BytesSay P)
-given_of P from Done each = All-nil (BytesSay P)
 given_of P from (Gave to frames) each = unmapped P from to frames each
-given_of P from (Handed reports) each = All-nil (BytesSay P)
-given_of P from (Told stopped) each = All-nil (BytesSay P)
+given_of P from other each = All-nil (BytesSay P)
 
 -- if it is of the node's own number
 abbrev OwnSays : (SaidLedger → Type 0) → ℕ → SaidLedger → Type 0

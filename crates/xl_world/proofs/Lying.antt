@@ -1,17 +1,11 @@
 -- A lie is sealed by the one key that its sender shares with its receiver.
-use Rattle.std.proofs.Common.{◌≡◌, ◌≢◌, ℕ, ◌+◌, ◌-◌, ◌≤◌, List, Option, Some, None, refl, ap, sym, ◌∙◌, arith}
+use Rattle.std.proofs.Common.{◌≡◌, ◌≢◌, ℕ, ◌-◌, ◌≤◌, List, Option, Some, None, refl, ap, sym, ◌∙◌, arith}
 use Rattle.std.specs.Prelude.{◌==◌, ◌||◌, IsSome, option_map, unwrap_or}
 use Rattle.std.proofs.lemmas.Bool.{cond-true, cond-false}
 use Rattle.std.proofs.lemmas.Bool.Decides.{nat_tests}
 use Rattle.std.proofs.lemmas.List.FromFn.{get_or-map-range_with_len}
 use Rattle.xl_lists.specs.Lists.{is_outside}
-use Rattle.xl_sched.specs.declared.event.Lied.{Lied}
-use Rattle.xl_sched.specs.declared.event.Lied.TheVariants as lied
-use Rattle.xl_sched.specs.Fits.{IsFitLied}
 use Rattle.xl_wire.specs.Raws.{RawFrame, raw_bytes}
-use Rattle.xl_base.specs.declared.ids.LedgerId.{LedgerId}
-use Rattle.xl_wire.specs.Writing.{body_length, validated_length}
-use Rattle.xl_world.specs.Schedule.{lied_body}
 use Rattle.xl_tags.specs.Macs.{mac}
 use Rattle.xl_tags.specs.PairKeys.{pair_key_of}
 use Rattle.xl_tags.specs.Rings.{Ring, key_of, schedule_key, schedule_ring}
@@ -54,17 +48,3 @@ unsealed ring f none = kept_tag f _ (key_of ring f.to) none
 -- a number has no key for itself
 pub keyless : (from to : ℕ) (f : RawFrame) → 1 ≤ to → to ≤ 64 → to ≡ from → f.to ≡ to → IsSome (key_of (schedule_ring from) f.to) → ⊥
 keyless from to f low high same is_to = none_some (key_of (schedule_ring from) f.to) (ap (key_of (schedule_ring from)) is_to ∙ key_of_own from to low high same)
-
--- HOW LONG IT IS
-
-validated_few : (o : Option LedgerId) → validated_length o ≤ 32
-validated_few None = omega arith
-validated_few (Some id) = omega arith
-
--- no lie is longer than the longest frame
-pub lied_short : (lie : Lied) → IsFitLied lie → 46 + body_length (lied_body lie) ≤ 8240
-lied_short (lied.Proposal p) fit = omega arith
-lied_short (lied.Validation v) fit = omega (arith, validated_few v.validated)
-lied_short (lied.Header name h) fit = omega arith
-lied_short (lied.TxSet ids) fit = omega (arith, fit.at_most)
-lied_short (lied.Tx tx) fit = omega arith

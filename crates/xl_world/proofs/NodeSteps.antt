@@ -253,10 +253,7 @@ issue_says P n v false off save says fair = record { node = says; issued = tt }
 
 taking_says : (P : SaidLedger → Type 0) (n : Node) (from : ℕ) (what : Speech) → NodeSays P n → ((v : Validation) → what ≡ speech.Validation v → P (said_by from v)) → ReplySays P n.me (taken_reply n from what)
 taking_says P n from (speech.Validation v) says fair = record { node = rows_say P (second_of n) from v (fair v refl) n.rows says; issued = tt }
-taking_says P n from (speech.Header h) says fair = record { node = says; issued = tt }
-taking_says P n from (speech.Proposal p) says fair = record { node = says; issued = tt }
-taking_says P n from (speech.TxSet ids) says fair = record { node = says; issued = tt }
-taking_says P n from (speech.Tx tx) says fair = record { node = says; issued = tt }
+taking_says P n from other says fair = record { node = says; issued = tt }
 
 hearing_says : (P : SaidLedger → Type 0) (n : Node) (bytes : List ℕ) → NodeSays P n →
     ((from : ℕ) (v : Validation) → spoken_in n.keys n.list.members bytes ≡ Ok (record { from = from; what = speech.Validation v }) → P (said_by from v)) → ReplySays P n.me (bytes_reply n bytes)

@@ -80,14 +80,8 @@ drained_there numbers xs i k d y found is =
     put_found xs i k d y found (ap (λ (p : Place). p.core.node.me) is ∙ ap (λ n. n.me) (node_still p.core (drains_of numbers p.core) (turns_are p.core _)))
     ∙ (ap (λ (p : Place). put_place p xs) is ∙ ap (λ o. put_drained numbers o xs) (sym (found_there xs i k d found)))
 
-pub drained_nowhere : (numbers : List ℕ) (xs : List Place) (i : ℕ) → position (λ p. p.core.node.me == i) xs ≡ None → xs ≡ put_drained numbers (place_at i xs) xs
-drained_nowhere numbers xs i none = ap (λ o. put_drained numbers o xs) (sym (none_there xs i none))
-
 pub given_there : (numbers : List ℕ) (xs : List Place) (i k : ℕ) (d : Place) → position (λ p. p.core.node.me == i) xs ≡ Some k → given_by (get_or xs k d).core (drains_of numbers (get_or xs k d).core) ≡ given_at numbers (place_at i xs)
 given_there numbers xs i k d found = ap (given_at numbers) (sym (found_there xs i k d found))
-
-pub given_nowhere : (numbers : List ℕ) (xs : List Place) (i : ℕ) → position (λ p. p.core.node.me == i) xs ≡ None → [] ≡ given_at numbers (place_at i xs)
-given_nowhere numbers xs i none = ap (given_at numbers) (sym (none_there xs i none))
 
 -- a node that is opened again at the place that is found
 pub again_there : (xs : List Place) (i k now : ℕ) (disk : Disk) (d y : Place) → position (λ p. p.core.node.me == i) xs ≡ Some k → y ≡ place_again (get_or xs k d) now disk → set xs k y ≡ put_again now disk (place_at i xs) xs

@@ -9,7 +9,7 @@ use Rattle.xl_lists.proofs.Agreement.{kept_by_step, vouches_still}
 use Rattle.xl_queues.specs.Queues.{Backlog}
 use Rattle.xl_validations.specs.declared.row.Row.{Row}
 use Rattle.xl_core.specs.declared.item.Item.{Item}
-use Rattle.xl_core.specs.declared.item.Item.TheVariants.{Validation as ValidationItem, Tx, TxSet, Proposal, Header}
+use Rattle.xl_core.specs.declared.item.Item.TheVariants.{Validation as ValidationItem}
 use Rattle.xl_core.specs.Core.{Core, CoreReply}
 use Rattle.xl_core.specs.Node.{Reply}
 use Rattle.xl_world.specs.declared.place.Disk.{Disk}
@@ -64,10 +64,7 @@ put_cases j x (y ∷ ys) p h =
 -- what holds of everything at a core holds with a weaker fact
 pub item_weaker : (P Q : SaidLedger → Type 0) → ((x : SaidLedger) → P x → Q x) → (me : ℕ) (item : Item) → ItemSays P me item → ItemSays Q me item
 item_weaker P Q h me (ValidationItem v) says = h (said_by me v) says
-item_weaker P Q h me (Tx tx) says = tt
-item_weaker P Q h me (TxSet id) says = tt
-item_weaker P Q h me (Proposal p) says = tt
-item_weaker P Q h me (Header id) says = tt
+item_weaker P Q h me other says = tt
 
 pub core_weaker : (P Q : SaidLedger → Type 0) → ((x : SaidLedger) → P x → Q x) → (core : Core) → CoreSays P core → CoreSays Q core
 core_weaker P Q h core says = record {

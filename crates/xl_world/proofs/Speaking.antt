@@ -32,11 +32,8 @@ sealed_said ring from to v h =
 
 -- the frame of another body says none
 abbrev pub is_other : Body → Bool
-is_other (bodies.Proposal p) = true
 is_other (bodies.Validation v) = false
-is_other (bodies.Header header) = true
-is_other (bodies.TxSet ids) = true
-is_other (bodies.Tx id) = true
+is_other other = true
 
 false_true : false ≡ true → ⊥
 false_true e = cc

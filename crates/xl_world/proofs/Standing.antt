@@ -1,6 +1,6 @@
 -- What stands in a world, anywhere under a member's name: in a row, among what waits, or in what was sent.
 use Rattle.std.specs.Prelude.{◌≡◌, ℕ, List, All, IfSome}
-use Rattle.std.specs.Prelude.{Some, None, Result, Ok, Err}
+use Rattle.std.specs.Prelude.{Some, None, Result, Ok}
 use Rattle.std.specs.declared.option.Option.{Option}
 use Rattle.xl_io.specs.Keepers.{MayHold}
 use Rattle.xl_lists.specs.declared.said.SaidLedger.{SaidLedger}
@@ -32,11 +32,7 @@ RowSays P row = IfSome row.current (λ v. P (said_by row.member v))
 -- what a body says under its sender's number, if it says anything
 abbrev pub said_in_body : ℕ → Result Body WireRefusal → Option SaidLedger
 said_in_body from (Ok (bodies.Validation v)) = Some (said_by from v)
-said_in_body from (Ok (bodies.Proposal proposal)) = None
-said_in_body from (Ok (bodies.Header header)) = None
-said_in_body from (Ok (bodies.TxSet ids)) = None
-said_in_body from (Ok (bodies.Tx id)) = None
-said_in_body from (Err why) = None
+said_in_body from other = None
 
 abbrev pub said_in_split : Split → Option SaidLedger
 said_in_split (Whole f) = said_in_body f.from (body_of f.kind f.body)

@@ -179,12 +179,8 @@ told_of_beat i (timer_answer.Built seq id moved_on how) = Built i seq id how ∷
 -- what is told of an answer: that it refuses, or what came of a timer
 abbrev pub told_of_answer : ℕ → Answer → List Outcome
 told_of_answer i (answer.Refused why) = Refused i why ∷ []
-told_of_answer i (answer.Took taken) = []
 told_of_answer i (answer.Beats beat) = told_of_beat i beat
-told_of_answer i answer.Done = []
-told_of_answer i (answer.Gave to frames) = []
-told_of_answer i (answer.Handed reports) = []
-told_of_answer i (answer.Told stopped) = []
+told_of_answer i other = []
 
 -- what is told of a reply: of its answer, and then what it reports
 abbrev pub outcomes_of : ℕ → CoreReply → List Outcome

@@ -75,12 +75,8 @@ said_by_issued member seq id issued.Silent = None
 said_by_issued member seq id (issued.Refused why) = None
 
 abbrev pub said_by_beat : ℕ → TimerAnswer → Option SaidLedger
-said_by_beat member timer_answer.Nothing = None
-said_by_beat member timer_answer.Closed = None
-said_by_beat member timer_answer.Updated = None
-said_by_beat member (timer_answer.Switched seq id) = None
-said_by_beat member (timer_answer.NoRoom limit) = None
 said_by_beat member (timer_answer.Built seq id moved_on how) = said_by_issued member seq id how
+said_by_beat member other = None
 
 -- the validation that a node issued by what happened at it, as it is told
 abbrev pub said_in : ℕ → Deed → Answer → Option SaidLedger

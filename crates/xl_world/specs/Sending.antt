@@ -32,12 +32,16 @@ body_said (said.Validation v) = bodies.Validation v
 body_said (said.Header h) = bodies.Header h
 body_said (said.Tx tx) = bodies.Tx tx
 
--- the last byte of its receiver's number in a frame, or 0 in what is too short for one
+-- where a frame has the last byte of its receiver's number
+abbrev pub address_place : ℕ
+address_place = 13
+
+-- that byte, or 0 in what is too short for a frame
 abbrev pub address_in : List ℕ → ℕ
-address_in bytes = get_or bytes 13 0
+address_in bytes = get_or bytes address_place 0
 
 abbrev pub with_address : ℕ → List ℕ → List ℕ
-with_address address bytes = set bytes 13 address
+with_address address bytes = set bytes address_place address
 
 -- the tag of a frame to this receiver, of which these bytes are kept; what is no frame was sent as it is kept
 abbrev pub IsTag : ℕ → List ℕ → Option (List ℕ) → Type 0

@@ -27,10 +27,7 @@ use crate::place::{NodeCore, Place};
 use crate::said::Said;
 use crate::traffic::Traffic;
 use xl_base::{NodeNo, OutOfMemory};
-use xl_wire::{Body, LONGEST_FRAME};
-
-/// How many bytes a frame has besides its body.
-const AROUND: usize = 46;
+use xl_wire::{AROUND, Body, LONGEST_FRAME};
 
 /// How many bytes the frame has with which these begin, or None if they begin with no whole frame. Its length alone is
 /// read: frames that were just written are well formed, and of other bytes the answer says nothing.

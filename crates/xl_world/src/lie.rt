@@ -2,6 +2,7 @@
 ghost use Rattle.std.specs.Prelude.{◌≡◌, ◌≤◌, ◌++◌, IfSome, IsTrue, length, take};
 ghost use Rattle.xl_core.specs.Hearing.{bytes_as_sealed};
 ghost use Rattle.xl_core.specs.Sending.{blank_frame, has_spelling, sealed_bytes};
+ghost use Rattle.xl_wire.specs.declared.lengths.TheConstants.{AROUND};
 ghost use Rattle.xl_wire.specs.Bodies.{IsBody};
 ghost use Rattle.xl_wire.specs.Frames.{raw_of};
 ghost use Rattle.xl_wire.specs.Raws.{RawFrame, SpellsRaw};
@@ -36,7 +37,7 @@ pub fn put_lie(from: NodeNo, to: NodeNo, lie: &Lied, room: &mut [u8]) -> usize
 pub(crate) fn put_blank_lie(from: NodeNo, to: NodeNo, lie: &Lied, room: &mut [u8]) -> usize
     requires sayable { IsFitLied lie.now }
     requires room { longest_frame ≤ length room.old }
-    ensures long { 46 ≤ result }
+    ensures long { AROUND ≤ result }
     ensures within { result ≤ length room.new }
     ensures spelled { SpellsRaw (raw_of (blank_frame from to (lied_body lie.now))) (take result room.new) }
     ensures has { IsTrue (has_spelling from to (lied_body lie.now)) }
@@ -49,7 +50,7 @@ pub(crate) fn put_blank_lie(from: NodeNo, to: NodeNo, lie: &Lied, room: &mut [u8
 /// Writes the frame of a body with zeros in place of its tag to the front of a room, and answers how many bytes it has.
 pub(crate) fn put_blank(from: NodeNo, to: NodeNo, body: Body<'_>, room: &mut [u8]) -> usize
     requires room { longest_frame ≤ length room.old }
-    ensures long { 46 ≤ result }
+    ensures long { AROUND ≤ result }
     ensures short { result ≤ longest_frame }
     ensures has { IsTrue (has_spelling from to body.entry) }
     ensures within { result ≤ length room.new }

@@ -7,7 +7,7 @@ use Rattle.xl_world.specs.Emptying.{after_events, drains_of, given_by}
 use Rattle.xl_world.specs.Indexes.{with_frames}
 use Rattle.xl_world.specs.Seen.{given_at, put_drained}
 use Rattle.xl_world.specs.World.{place_at}
-use Rattle.xl_world.proofs.Places.{drained_there, found_there, found_within, given_there, on_ok}
+use Rattle.xl_world.proofs.Places.{drained_there, found_there, given_there, on_ok}
 use Rattle.xl_world.proofs.draining.drain_at.Goals as goal
 
 pub drain-requires : goal.drain-requires

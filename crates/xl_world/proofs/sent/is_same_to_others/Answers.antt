@@ -1,7 +1,8 @@
-use Rattle.std.proofs.Common.{◌≡◌, ◌<◌, ◌-◌, ◌∙◌, List, ℕ, arith, drop, length, sym, take}
+use Rattle.std.proofs.Common.{◌≡◌, ◌<◌, ◌+◌, ◌-◌, ◌∙◌, List, ℕ, arith, drop, length, sym, take}
 use Rattle.std.proofs.lemmas.Bool.Decides.{nat_tests}
 use Rattle.std.proofs.lemmas.List.{take_rest}
 use Rattle.std.proofs.lemmas.Slice.Eq.{bytes_eq-Decides}
+use Rattle.xl_world.specs.Sending.{address_place}
 use Rattle.xl_world.proofs.Framing.{same_addressed}
 use Rattle.xl_world.proofs.sent.is_same_to_others.Goals as goal
 
@@ -10,8 +11,9 @@ returns-then-eq c = λ is.
     let one : List ℕ = c.args.one.now in
     let other : List ℕ = c.args.other.now in
     let long : length one ≡ length other = grind (arith, nat_tests) in
-    let some : 13 < length one = omega (arith, c.if-one-le-ADDRESS.false) in
-    let before : take 13 one ≡ take 13 other = (bytes_eq-Decides (take 13 one) (take 13 other)).0 (sym c.eq.ensures ∙ c.if-eq.true) in
-    let behind : take (length one - 14) (drop 14 one) ≡ take (length other - 14) (drop 14 other) =
-    (bytes_eq-Decides (take (length one - 14) (drop 14 one)) (take (length other - 14) (drop 14 other))).0 (sym c.eq-then-eq.ensures ∙ is) in
-    same_addressed one other long some before (sym (take_rest one 14) ∙ behind ∙ take_rest other 14)
+    let some : address_place < length one = omega (arith, c.if-one-le-ADDRESS.false) in
+    let before : take address_place one ≡ take address_place other = (bytes_eq-Decides (take address_place one) (take address_place other)).0 (sym c.eq.ensures ∙ c.if-eq.true) in
+    let next : ℕ = address_place + 1 in
+    let behind : take (length one - next) (drop next one) ≡ take (length other - next) (drop next other) =
+    (bytes_eq-Decides (take (length one - next) (drop next one)) (take (length other - next) (drop next other))).0 (sym c.eq-then-eq.ensures ∙ is) in
+    same_addressed one other long some before (sym (take_rest one next) ∙ behind ∙ take_rest other next)
