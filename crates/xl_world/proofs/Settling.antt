@@ -9,7 +9,7 @@ use Rattle.xl_lists.proofs.Agreement.{kept_by_step, vouches_still}
 use Rattle.xl_queues.specs.Queues.{Backlog}
 use Rattle.xl_validations.specs.declared.row.Row.{Row}
 use Rattle.xl_core.specs.declared.item.Item.{Item}
-use Rattle.xl_core.specs.declared.item.Item.TheVariants.{Validation as ValidationItem, Tx, TxSet, Proposal, Header}
+use Rattle.xl_core.specs.declared.item.Item.TheVariants.{Validation as ValidationItem}
 use Rattle.xl_core.specs.Core.{Core, CoreReply}
 use Rattle.xl_core.specs.Node.{Reply}
 use Rattle.xl_world.specs.declared.place.Disk.{Disk}

@@ -1,6 +1,6 @@
 -- What stands in a world, anywhere under a member's name: in a row, among what waits, or in what was sent.
 use Rattle.std.specs.Prelude.{◌≡◌, ℕ, List, All, IfSome}
-use Rattle.std.specs.Prelude.{Some, None, Result, Ok, Err}
+use Rattle.std.specs.Prelude.{Some, None, Result, Ok}
 use Rattle.std.specs.declared.option.Option.{Option}
 use Rattle.xl_io.specs.Keepers.{MayHold}
 use Rattle.xl_lists.specs.declared.said.SaidLedger.{SaidLedger}

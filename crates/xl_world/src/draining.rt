@@ -118,8 +118,8 @@ fn send_body(
     ensures spelled { IsTrue (has_spelling from to body.entry) }
     ensures err { OnErr result (traffic.new ≡ traffic.old) }
 {
-    match Said::of(&body) {
-        Some(said) => traffic.push_said(from, to, &said),
+    match &Said::of(&body) {
+        Some(said) => traffic.push_said(from, to, said),
         None => {
             let length = put_blank(from, to, body, &mut *room);
             traffic.push(from, to, &room[..length])

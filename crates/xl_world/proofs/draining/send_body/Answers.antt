@@ -1,18 +1,23 @@
-use Rattle.std.proofs.Common.{◌≡◌, ◌∷◌, ℕ, List, [], arith, subst}
-use Rattle.std.specs.Prelude.{OnOk}
+use Rattle.std.proofs.Common.{◌≡◌, ◌∷◌, ℕ, List, [], Option, Some, arith, subst}
+use Rattle.std.specs.Prelude.{IfSome, OnOk}
 use Rattle.xl_wire.specs.declared.body.Body.{Body}
 use Rattle.xl_wire.specs.Bodies.{IsBody}
 use Rattle.xl_world.specs.Indexes.{with_frames}
-use Rattle.xl_world.specs.Sending.{Sent, said_to}
+use Rattle.xl_world.specs.declared.said.Said.{Said}
+use Rattle.xl_world.specs.Sending.{Sent, body_said, said_to}
 use Rattle.xl_world.proofs.Carrying.{spelled_between}
 use Rattle.xl_world.proofs.draining.send_body.Goals as goal
 
+-- what is kept says the body
+value_in : (body : Body) (o : Option Said) (said : Said) → o ≡ Some said → IfSome o (λ s. body_said s ≡ body) → body_said said ≡ body
+value_in body o said is value = subst (λ (o : Option Said). IfSome o (λ s. body_said s ≡ body)) is value
+
 pub returns-in-Some-clause-sent : goal.returns-in-Some-clause-sent
 returns-in-Some-clause-sent c =
-    subst (λ (b : Body). OnOk c.push_said.result (c.push_said.new.self ≡ with_frames c.args.traffic.now (said_to c.args.from c.args.to b ∷ []))) c.in-Some.ensures.value c.push_said.ensures.sent
+    subst (λ (b : Body). OnOk c.push_said.result (c.push_said.new.self ≡ with_frames c.args.traffic.now (said_to c.args.from c.args.to b ∷ []))) (value_in c.args.body c.of.result c.in-Some.said c.in-Some.is c.of.ensures.value) c.push_said.ensures.sent
 
 pub returns-in-Some-clause-spelled : goal.returns-in-Some-clause-spelled
-returns-in-Some-clause-spelled c = spelled_between c.args.from c.args.to c.args.body (omega arith, omega arith) (omega arith, omega arith) (subst IsBody c.in-Some.ensures.value c.in-Some.ensures.fits)
+returns-in-Some-clause-spelled c = spelled_between c.args.from c.args.to c.args.body (omega arith, omega arith) (omega arith, omega arith) (subst IsBody (value_in c.args.body c.of.result c.in-Some.said c.in-Some.is c.of.ensures.value) (subst (λ (o : Option Said). IfSome o (λ s. IsBody (body_said s))) c.in-Some.is c.of.ensures.fits))
 
 pub returns-in-None-clause-sent : goal.returns-in-None-clause-sent
 returns-in-None-clause-sent c =

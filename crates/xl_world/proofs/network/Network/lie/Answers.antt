@@ -1,4 +1,4 @@
-use Rattle.std.proofs.Common.{rules, ◌≡◌, ◌++◌, ◌∙◌, ℕ, List, None, ap, append-nil, set, subst, sym, take, true, arith}
+use Rattle.std.proofs.Common.{rules, ◌≡◌, ◌++◌, ◌∙◌, ℕ, List, None, ap, append-nil, set, subst, sym, true, arith}
 use Rattle.std.specs.Prelude.{◌==◌, OnOk, position}
 use Rattle.xl_lists.specs.Lists.{is_on}
 use Rattle.xl_core.specs.declared.event.CoreEvent.{CoreEvent}
@@ -9,7 +9,7 @@ use Rattle.xl_world.specs.declared.place.Fate.TheVariants.{Saved}
 use Rattle.xl_world.specs.declared.place.Place.{Place}
 use Rattle.xl_world.specs.Emptying.{event_steps}
 use Rattle.xl_world.specs.Disk.{answer_of}
-use Rattle.xl_world.specs.Schedule.{hand_steps, lied_body, lied_bytes, told_in}
+use Rattle.xl_world.specs.Schedule.{hand_steps, lied_body, lied_bytes}
 use Rattle.xl_world.specs.Seen.{with_forged}
 use Rattle.xl_world.specs.World.{World, run}
 use Rattle.xl_world.specs.Worlds.{network_seen}

@@ -1,14 +1,14 @@
 -- what a liar says is heard as it would be sent
-use Rattle.std.proofs.Common.{◌≡◌, ◌∙◌, ℕ, List, ap, arith, subst, sym, true}
+use Rattle.std.proofs.Common.{◌≡◌, ◌∙◌, ℕ, List, ap, arith, subst, true}
 use Rattle.xl_core.specs.Node.{Node}
 use Rattle.xl_core.specs.Sending.{has_spelling, sealed_bytes}
 use Rattle.xl_core.specs.declared.event.CoreEvent.TheVariants.{Frame}
 use Rattle.xl_tags.specs.Rings.{schedule_ring}
 use Rattle.xl_wire.specs.declared.body.Body.{Body}
 use Rattle.xl_world.specs.declared.place.Fate.TheVariants.{Saved}
-use Rattle.xl_world.specs.Schedule.{lied_body, lied_bytes}
+use Rattle.xl_world.specs.Schedule.{lied_bytes}
 use Rattle.xl_world.specs.Seen.{IsAnswer, place_after}
-use Rattle.xl_world.specs.Sending.{Sent, body_said, said_to}
+use Rattle.xl_world.specs.Sending.{Sent, body_said}
 use Rattle.xl_world.proofs.Carrying.{spelled_between}
 use Rattle.xl_world.proofs.place.Place.hears_lie.Goals as goal
 use Rattle.xl_world.proofs.place.Place.hears_lie.Goals.{After-hears_sent}

@@ -1,5 +1,5 @@
 -- the blank frame is heard as the sealed one
-use Rattle.std.proofs.Common.{◌≡◌, ◌∙◌, ℕ, List, ap, subst, sym, take, true}
+use Rattle.std.proofs.Common.{◌≡◌, ◌∙◌, ℕ, List, ap, subst, take, true}
 use Rattle.xl_core.specs.Hearing.{bytes_as_sealed}
 use Rattle.xl_core.specs.Node.{Node}
 use Rattle.xl_core.specs.Sending.{has_spelling}
