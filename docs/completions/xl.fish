@@ -1,6 +1,7 @@
 # Completions of xl for fish: put this file into ~/.config/fish/completions.
 complete -c xl -f
 complete -c xl -n __fish_use_subcommand -a replay -d 'run a schedule'
+complete -c xl -n __fish_use_subcommand -a tell -d 'tell each event of a schedule'
 complete -c xl -n __fish_use_subcommand -a node -d 'run a validator'
 complete -c xl -n __fish_use_subcommand -a lists -d 'compare trusted lists'
 complete -c xl -n __fish_use_subcommand -a merge -d 'tell the list in force by rolls'

@@ -1,6 +1,6 @@
 //! What a node holds, as it is noted before a part of an event, and whether a part of that is still the same.
 //!
-//! It stands on xl_core, whose nodes it reads. No command stands on it yet. Its one contract: what is noted is exactly
+//! It stands on xl_core, whose nodes it reads. Its one contract: what is noted is exactly
 //! `noted` of the node, and each test answers as its definition says.
 #![tactic(auto)]
 

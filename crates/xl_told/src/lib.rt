@@ -2,7 +2,7 @@
 //! ids as a report prints them.
 //!
 //! It stands on xl_running, which prints ids by their names, and on xl_sched and xl_wire, whose events and bodies it
-//! spells. No command stands on it yet. Its one contract: each function puts behind a text exactly what its definition
+//! spells. Its one contract: each function puts behind a text exactly what its definition
 //! says.
 #![tactic(auto)]
 

@@ -16,12 +16,13 @@ use Rattle.xl_merge.specs.Merging.{merge_promise}
 use Rattle.xl_pairs.specs.Comparing.{lists_promise}
 use Rattle.xl_replay.specs.Replays.{report_promise}
 use Rattle.xl_show.specs.Promises.{show_promise}
+use Rattle.xl_tell.specs.Tellings.{telling_promise}
 use Rattle.xl_voting.specs.Promises.{flags_promise}
 use Rattle.xl_negative.specs.Promises.{negative_promise}
 use Rattle.xl_words.specs.declared.command.Command.{Command}
 use Rattle.xl_words.specs.declared.command.Command.TheVariants.{Node, Tell}
 use Rattle.xl_words.specs.declared.command.Telling.{Telling}
-use Rattle.xl_words.specs.declared.command.Telling.TheVariants.{Replay, Show, Lists, Merge, Audit, Blame, Flags, Negative, Gen, Help, Version}
+use Rattle.xl_words.specs.declared.command.Telling.TheVariants.{Replay, Events, Show, Lists, Merge, Audit, Blame, Flags, Negative, Gen, Help, Version}
 use Rattle.xl_words.specs.Commands.{command_of}
 use Rattle.xl_words.specs.Help.{help_text, version_text}
 
@@ -42,6 +43,7 @@ told_of words = option_and_then telling_in (asked_of words)
 -- all is known; the words ask for no more rounds than the most
 abbrev pub promise_by : Telling → Promise
 promise_by Replay = report_promise
+promise_by Events = telling_promise
 promise_by Show = show_promise
 promise_by Lists = at_once lists_promise
 promise_by Merge = merge_promise

@@ -21,6 +21,7 @@ use xl_negative::Negative;
 use xl_pairs::Lists;
 use xl_replay::Replay;
 use xl_show::Show;
+use xl_tell::Tell;
 use xl_texts::{tell, tell_at_once};
 use xl_voting::Flags;
 use xl_words::Telling;
@@ -58,6 +59,7 @@ fn told<I: Source, O: Sink>(
 {
     match telling {
         Telling::Replay => tell::<Replay, I, O>(alloc, input, output),
+        Telling::Events => tell::<Tell, I, O>(alloc, input, output),
         Telling::Show => tell::<Show, I, O>(alloc, input, output),
         Telling::Lists => tell_at_once::<Lists, I, O>(alloc, input, output),
         Telling::Merge => tell::<Merge, I, O>(alloc, input, output),

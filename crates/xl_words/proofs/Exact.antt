@@ -14,7 +14,7 @@ use Rattle.clap.specs.declared.error.Error.{Error}
 use Rattle.clap.specs.Words.{HasKind, Kinds, kind_of, Text, is_simple, is_simple_and_free}
 use Rattle.xl_words.specs.declared.command.Command.{Command}
 use Rattle.xl_words.specs.declared.command.Command.TheVariants.{Node, Tell}
-use Rattle.xl_words.specs.declared.command.Telling.TheVariants.{Replay, Show, Lists, Merge, Audit, Blame, Flags, Negative, Gen, Help, Version}
+use Rattle.xl_words.specs.declared.command.Telling.TheVariants.{Replay, Events, Show, Lists, Merge, Audit, Blame, Flags, Negative, Gen, Help, Version}
 use Rattle.xl_words.specs.declared.command.WordsFault.{WordsFault}
 use Rattle.xl_words.specs.declared.command.WordsFault.TheVariants.{Refused, Memory}
 use Rattle.xl_words.specs.Programs.{program}
@@ -65,6 +65,10 @@ flags_is name = refl
 negative_is : (name : Text) → command_of (name ∷ codes "negative" ∷ []) ≡ Some (Tell Negative)
 unfolding clap_on_literals
 negative_is name = refl
+
+tell_is : (name : Text) → command_of (name ∷ codes "tell" ∷ []) ≡ Some (Tell Events)
+unfolding clap_on_literals
+tell_is name = refl
 
 help_is : (name : Text) → command_of (name ∷ codes "--help" ∷ []) ≡ Some (Tell Help)
 unfolding clap_on_literals
@@ -128,6 +132,7 @@ exactly [] (Tell Audit) w = absurd cc
 exactly [] (Tell Blame) w = absurd cc
 exactly [] (Tell Flags) w = absurd cc
 exactly [] (Tell Negative) w = absurd cc
+exactly [] (Tell Events) w = absurd cc
 exactly [] (Tell (Gen n)) w = let bad = w.1 in absurd cc
 exactly [] (Tell Help) (inl w) = absurd cc
 exactly [] (Tell Help) (inr w) = absurd cc
@@ -142,6 +147,7 @@ exactly (name ∷ rest) (Tell Audit) w = rw w (audit_is name)
 exactly (name ∷ rest) (Tell Blame) w = rw w (blame_is name)
 exactly (name ∷ rest) (Tell Flags) w = rw w (flags_is name)
 exactly (name ∷ rest) (Tell Negative) w = rw w (negative_is name)
+exactly (name ∷ rest) (Tell Events) w = rw w (tell_is name)
 exactly (name ∷ rest) (Tell (Gen n)) w = rw w.1 (gen_text name w.0 n w.2)
 exactly (name ∷ rest) (Tell Help) (inl w) = rw w (help_is name)
 exactly (name ∷ rest) (Tell Help) (inr w) = rw w (short_help_is name)

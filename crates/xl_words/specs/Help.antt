@@ -10,6 +10,7 @@ usage_text =
 unfoldable pub commands_text : List ℕ
 commands_text =
     codes "  replay         runs a schedule, and writes what each node does\n"
+    ++ codes "  tell           runs a schedule, and tells each event: what is sent and held\n"
     ++ codes "  node           runs a validator by the settings that it reads\n"
     ++ codes "  lists          compares the trusted lists of a schedule, pair by pair\n"
     ++ codes "  merge          tells which list is in force, from the rolls of publishers\n"
@@ -25,8 +26,8 @@ commands_text =
 -- what it reads and writes
 unfoldable pub streams_text : List ℕ
 streams_text =
-    codes "A command reads standard input and writes standard output. replay, lists, flags\n"
-    ++ codes "and negative read a schedule, which begins with the line: xl-schedule 1\n"
+    codes "A command reads standard input and writes standard output. replay, tell, lists,\n"
+    ++ codes "flags and negative read a schedule, which begins with the line: xl-schedule 1\n"
     ++ codes "merge reads rolls, in a text that begins with the line: xl-publish 1\n"
     ++ codes "audit reads a written journal, which begins with the line: xl-journal 1\n"
     ++ codes "blame reads one journal or more, each right behind the one before it.\n"

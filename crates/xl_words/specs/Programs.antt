@@ -29,9 +29,10 @@ bare = record (new_app (codes "xl")) {
   };
 }
 
--- the program with its ten commands
+-- the program with its eleven commands
 abbrev pub program : App
 program = with_subcommand (with_subcommand (with_subcommand (with_subcommand (with_subcommand (with_subcommand
-    (with_subcommand (with_subcommand (with_subcommand (with_subcommand bare (plain (codes "replay"))) (plain (codes
-    "node"))) (plain (codes "show"))) (plain (codes "lists"))) (plain (codes "merge"))) (plain (codes "audit"))) (plain
-    (codes "blame"))) (plain (codes "flags"))) (plain (codes "negative"))) with_rounds
+    (with_subcommand (with_subcommand (with_subcommand (with_subcommand (with_subcommand bare (plain (codes "replay")))
+    (plain (codes "node"))) (plain (codes "show"))) (plain (codes "lists"))) (plain (codes "merge"))) (plain (codes
+    "audit"))) (plain (codes "blame"))) (plain (codes "flags"))) (plain (codes "negative"))) (plain (codes "tell")))
+    with_rounds

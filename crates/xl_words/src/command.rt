@@ -23,6 +23,8 @@ pub enum Command {
 pub enum Telling {
     /// Runs a schedule, and writes what each node does.
     Replay,
+    /// Runs a schedule, and tells each event of it.
+    Events,
     /// Writes what the frames of a stream say.
     Show,
     /// Compares the lists of a schedule, pair by pair.
@@ -122,6 +124,9 @@ fn named(name: &str, matches: &ArgMatches<'_>) -> Option<Command>
     }
     if name == "negative" {
         return Some(Command::Tell(Telling::Negative));
+    }
+    if name == "tell" {
+        return Some(Command::Tell(Telling::Events));
     }
     if name == "gen" {
         return made(rounds_of(matches));

@@ -41,5 +41,6 @@ pub fn program<'a>(alloc: Global) -> Result<Command<'a>, AllocError>
         .subcommand(Command::new(alloc, "blame"))?
         .subcommand(Command::new(alloc, "flags"))?
         .subcommand(Command::new(alloc, "negative"))?
+        .subcommand(Command::new(alloc, "tell"))?
         .subcommand(rounds)
 }

@@ -6,6 +6,9 @@ use Rattle.xl_top.proofs.running.told.Goals as goal
 pub returns-in-Replay-clause-keeps : goal.returns-in-Replay-clause-keeps
 returns-in-Replay-clause-keeps g c = rw c.in-Replay.is c.tell.ensures
 
+pub returns-in-Events-clause-keeps : goal.returns-in-Events-clause-keeps
+returns-in-Events-clause-keeps g c = rw c.in-Events.is c.tell-in-Events.ensures
+
 pub returns-in-Show-clause-keeps : goal.returns-in-Show-clause-keeps
 returns-in-Show-clause-keeps g c = rw c.in-Show.is c.tell-in-Show.ensures
 
@@ -38,6 +41,9 @@ returns-in-Gen-clause-keeps g c = rw c.in-Gen.is (c.made.ensures (g.I.Source.lef
 
 pub returns-in-Replay-clause-unread : goal.returns-in-Replay-clause-unread
 returns-in-Replay-clause-unread g c = rw c.in-Replay.is (λ no. absurd (reads_on no))
+
+pub returns-in-Events-clause-unread : goal.returns-in-Events-clause-unread
+returns-in-Events-clause-unread g c = rw c.in-Events.is (λ no. absurd (reads_on no))
 
 pub returns-in-Show-clause-unread : goal.returns-in-Show-clause-unread
 returns-in-Show-clause-unread g c = rw c.in-Show.is (λ no. absurd (reads_on no))

@@ -8,8 +8,8 @@ pub returns : goal.returns
 unfolding streams_text
 returns c =
     let old = string_bytes c.args.text.now in
-    let a : List ℕ = codes "A command reads standard input and writes standard output. replay, lists, flags\n" in
-    let b : List ℕ = codes "and negative read a schedule, which begins with the line: xl-schedule 1\n" in
+    let a : List ℕ = codes "A command reads standard input and writes standard output. replay, tell, lists,\n" in
+    let b : List ℕ = codes "flags and negative read a schedule, which begins with the line: xl-schedule 1\n" in
     let d : List ℕ = codes "merge reads rolls, in a text that begins with the line: xl-publish 1\n" in
     let e : List ℕ = codes "audit reads a written journal, which begins with the line: xl-journal 1\n" in
     let f : List ℕ = codes "blame reads one journal or more, each right behind the one before it.\n" in
