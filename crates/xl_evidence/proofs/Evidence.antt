@@ -62,18 +62,10 @@ backed_more said more r backed = record {
 
 -- what is heard is shown
 heard_shown : (core : Core) (e : CoreEvent) (more : List SaidLedger) → CoreHeard (IsGenuine [] (option_to_list (heard_by core e) ++ more)) core.node e
-heard_shown core (Issue now seq id full) more = tt
 heard_shown core (Frame now bytes) more = λ from v is.
     subst (λ (r : Result Spoken Refusal). IsGenuine [] (option_to_list (said_so r) ++ more) (said_by from v)) (sym is)
     (genuine_more (said_by from v ∷ []) more (said_by from v) (one_said (said_by from v)))
-heard_shown core (Timer now) more = tt
-heard_shown core (Submit now tx) more = tt
-heard_shown core (Greet member) more = tt
-heard_shown core (Drain member room) more = tt
-heard_shown core (Reports room) more = tt
-heard_shown core Stop more = tt
-heard_shown core Stopped more = tt
-heard_shown core (Relist now list) more = tt
+heard_shown core other more = tt
 
 -- what is issued is shown
 issued_shown : (before : List SaidLedger) (me : ℕ) (o : Option Validation) →

@@ -23,10 +23,7 @@ use Rattle.xl_world.specs.World.{IsFitEvent, said_by}
 -- what is said by it under a member's name, if it is a validation
 abbrev pub said_in_speech : ℕ → Speech → Option SaidLedger
 said_in_speech from (speech.Validation v) = Some (said_by from v)
-said_in_speech from (speech.Header h) = None
-said_in_speech from (speech.Proposal p) = None
-said_in_speech from (speech.TxSet ids) = None
-said_in_speech from (speech.Tx tx) = None
+said_in_speech from other = None
 
 abbrev pub said_so : Result Spoken Refusal → Option SaidLedger
 said_so (Ok said) = said_in_speech said.from said.what

@@ -79,21 +79,10 @@ pub leaving_lawful : (seats : List ListSeat) → AreLawful seats → (i : ℕ) (
 leaving_lawful seats are i negative is = set_lawful seats are (i - 1) _ (record { valid = (seat_lawful seats are i).valid; negative = is })
 
 pub what_lawful : (seats : List ListSeat) → AreLawful seats → (w : What) → IsPlausible w → AreLawful (after_what list_keeping seats w)
-what_lawful seats are (what.Ask ask) plausible = are
-what_lawful seats are what.Timers plausible = are
-what_lawful seats are (what.Submit node tx) plausible = are
-what_lawful seats are (what.Deliver place) plausible = are
-what_lawful seats are what.All plausible = are
-what_lawful seats are what.Drop plausible = are
-what_lawful seats are (what.Greet node peer) plausible = are
 what_lawful seats are (what.Restart node) plausible = forgetting_lawful seats are node
 what_lawful seats are (what.Cut new ask) plausible = forgetting_lawful seats are (node_asked ask)
-what_lawful seats are (what.Fail new ask) plausible = are
 what_lawful seats are (what.List node list) plausible = listed_lawful seats are node list plausible
-what_lawful seats are (what.Lie from to lie) plausible = are
-what_lawful seats are (what.Raw to bytes) plausible = are
-what_lawful seats are (what.Prefer node) plausible = are
-what_lawful seats are (what.Heard node) plausible = are
+what_lawful seats are other plausible = are
 
 -- FULL LISTS
 

@@ -27,11 +27,8 @@ use Rattle.xl_negative.specs.declared.hearing.Heard.{Heard}
 
 -- what a body says of a ledger, if it is a validation
 abbrev pub said_in_body : ℕ → Body → Option SaidLedger
-said_in_body from (bodies.Proposal p) = None
 said_in_body from (bodies.Validation v) = Some (record { member = from; seq = v.seq; id = v.id })
-said_in_body from (bodies.Header header) = None
-said_in_body from (bodies.TxSet ids) = None
-said_in_body from (bodies.Tx id) = None
+said_in_body from other = None
 
 abbrev pub said_if_read : ℕ → Result Body WireRefusal → Option SaidLedger
 said_if_read from (Ok body) = said_in_body from body
@@ -78,21 +75,11 @@ heard_in_sent w frames = flat_map (heard_in_frame w) frames
 
 -- what nodes hear in the frames that are handed to them when something happens
 abbrev pub heard_in : World → What → List Heard
-heard_in w (what.Ask ask) = []
-heard_in w what.Timers = []
-heard_in w (what.Submit node tx) = []
 heard_in w (what.Deliver place) = heard_if_sent w (frame_at w.sent place)
 heard_in w what.All = heard_in_sent w (drop w.mark w.sent)
-heard_in w what.Drop = []
-heard_in w (what.Greet node peer) = []
-heard_in w (what.Restart node) = []
-heard_in w (what.Cut new ask) = []
-heard_in w (what.Fail new ask) = []
-heard_in w (what.List node list) = []
 heard_in w (what.Lie from to lie) = heard_of w to (lied_bytes from to lie)
 heard_in w (what.Raw to bytes) = heard_of w to bytes
-heard_in w (what.Prefer node) = []
-heard_in w (what.Heard node) = []
+heard_in w other = []
 
 -- a node hears what it issues
 abbrev pub heard_itself : SaidLedger → Heard

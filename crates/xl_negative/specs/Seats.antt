@@ -73,18 +73,7 @@ with_leaving_out keeping seats i negative = with_seat seats i (leaving_out (seat
 -- what an event of the input does to its node beside what is heard: one that is opened anew forgets, and a list that is
 -- set is full
 abbrev pub after_what : {H : Type 0} → Keeping H → List (Seat H) → What → List (Seat H)
-after_what keeping seats (what.Ask ask) = seats
-after_what keeping seats what.Timers = seats
-after_what keeping seats (what.Submit node tx) = seats
-after_what keeping seats (what.Deliver place) = seats
-after_what keeping seats what.All = seats
-after_what keeping seats what.Drop = seats
-after_what keeping seats (what.Greet node peer) = seats
 after_what keeping seats (what.Restart node) = with_forgetting keeping seats node
 after_what keeping seats (what.Cut new ask) = with_forgetting keeping seats (node_asked ask)
-after_what keeping seats (what.Fail new ask) = seats
 after_what keeping seats (what.List node list) = with_listing keeping seats node list
-after_what keeping seats (what.Lie from to lie) = seats
-after_what keeping seats (what.Raw to bytes) = seats
-after_what keeping seats (what.Prefer node) = seats
-after_what keeping seats (what.Heard node) = seats
+after_what keeping seats other = seats

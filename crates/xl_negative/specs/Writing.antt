@@ -136,12 +136,8 @@ after_report keeping s text i seq id =
     (change_at keeping (seat_at keeping s.seats i) i (ledgers_at s.running.world i) seq id)
 
 abbrev pub after_outcome : {H : Type 0} → Keeping H → Writing H → List ℕ → Outcome → Step (Writing H)
-after_outcome keeping s text (outcome.Switched i seq id) = goes_on text s
-after_outcome keeping s text (outcome.Built i seq id issued) = goes_on text s
-after_outcome keeping s text (outcome.Refused i why) = goes_on text s
 after_outcome keeping s text (outcome.Full i seq id) = after_report keeping s text i seq id
-after_outcome keeping s text (outcome.Preferred i ledger) = goes_on text s
-after_outcome keeping s text (outcome.Heard i member id) = goes_on text s
+after_outcome keeping s text other = goes_on text s
 
 -- further on, unless the text ends there
 unfoldable pub and_then : {H : Type 0} → (Writing H → List ℕ → Step (Writing H)) → Step (Writing H) → Step (Writing H)

@@ -78,20 +78,12 @@ node_in (Preferred node ledger) = node
 node_in (Heard node member id) = node
 
 seq_in : Outcome → ℕ
-seq_in (Switched node seq id) = 0
-seq_in (Built node seq id issued) = 0
-seq_in (Refused node refusal) = 0
 seq_in (Full node seq id) = seq
-seq_in (Preferred node ledger) = 0
-seq_in (Heard node member id) = 0
+seq_in other = 0
 
 id_in : LedgerId → Outcome → LedgerId
-id_in other (Switched node seq id) = other
-id_in other (Built node seq id issued) = other
-id_in other (Refused node refusal) = other
 id_in other (Full node seq id) = id
-id_in other (Preferred node ledger) = other
-id_in other (Heard node member id) = other
+id_in other another = other
 
 outcomes_agree : (w : World) → IsRun w → (i j seq : ℕ) (a b : LedgerId) → ToldBy w.reports (Full i seq a) → ToldBy w.reports (Full j seq b) → w.forged ≡ 0 →
     All (λ s. ¬ IsPair i j s) (short_pairs w) → All (λ s. ¬ IsPair j i s) (short_pairs w) → a ≡ b

@@ -71,12 +71,8 @@ world_after bytes = world_of (state_from limits limits.lines at_first (lines_of 
 
 -- whether an outcome is told by a `full` line
 abbrev pub is_full : Outcome → Bool
-is_full (Switched node seq id) = false
-is_full (Built node seq id issued) = false
-is_full (Refused node refusal) = false
 is_full (Full node seq id) = true
-is_full (Preferred node ledger) = false
-is_full (Heard node member id) = false
+is_full other = false
 
 -- the outcome that tells a report
 abbrev pub full_of : Report → Outcome

@@ -13,21 +13,9 @@ use Rattle.xl_running.specs.Running.{IsInRange}
 
 -- what fits a reading is plausible
 fit_plausible : (reading : Reading) (sent : ℕ) (w : What) → IsFitWhat reading sent w → IsPlausible w
-fit_plausible reading sent (what.Ask ask) fit = tt
-fit_plausible reading sent (what.Submit node tx) fit = tt
-fit_plausible reading sent what.Timers fit = tt
-fit_plausible reading sent (what.Deliver place) fit = tt
-fit_plausible reading sent what.All fit = tt
-fit_plausible reading sent what.Drop fit = tt
-fit_plausible reading sent (what.Greet node peer) fit = tt
-fit_plausible reading sent (what.Restart node) fit = tt
-fit_plausible reading sent (what.Cut new ask) fit = tt
-fit_plausible reading sent (what.Fail new ask) fit = tt
 fit_plausible reading sent (what.Lie from to lie) fit = fit.1
-fit_plausible reading sent (what.Raw to bytes) fit = tt
-fit_plausible reading sent (what.Prefer node) fit = tt
 fit_plausible reading sent (what.List node list) fit = fit.2
-fit_plausible reading sent (what.Heard node) fit = tt
+fit_plausible reading sent other fit = tt
 
 -- a line that fits is in range
 fit_in_range : (reading : Reading) (sent : ℕ) (l : Line) → IsFit reading sent l → IsInRange l

@@ -66,10 +66,7 @@ declares r (line.Node me list validating) =
     let node : PlanNode = record { me = me; list = list; validating = validating; moment = r.reading.now } in
     record r { plan = r.plan ++ node ∷ [] }
 declares r (line.Liar me) = record r { liars = r.liars ++ me ∷ [] }
-declares r (line.Name name id) = r
-declares r (line.Ledger name parent header) = r
-declares r (line.At at) = r
-declares r (line.Event e) = r
+declares r other = r
 
 -- an event is a step of the world
 abbrev pub happens : Running → Event → Running
