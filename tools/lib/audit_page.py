@@ -1,4 +1,4 @@
-"""The HTML of tools/audit_lists: tables, and numbers in the colours of a heat map. No script, and no request."""
+"""The HTML of pages for auditors: tables, and numbers in the colours of a heat map. No script, and no request."""
 from dataclasses import dataclass
 from html import escape
 
@@ -79,5 +79,6 @@ def table(caption, columns, rows):
     return '<div class="scroll"><table><caption>%s</caption>\n<tr>%s</tr>\n%s</table></div>' % (escape(caption), heads, body)
 
 
-def page(title, parts):
-    return PAGE % {'title': escape(title), 'style': STYLE, 'parts': '\n'.join(parts)}
+def page(title, parts, more=''):
+    """A page of these parts, in the style of all and perhaps in more."""
+    return PAGE % {'title': escape(title), 'style': STYLE + more, 'parts': '\n'.join(parts)}

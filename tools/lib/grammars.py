@@ -2,15 +2,22 @@
 import re
 
 from xl_report import (
+    ANSWER,
     AUDITED,
     BAD_LINE,
+    BLAMED,
+    BLAMED_FORK,
+    CLEAR,
     FLAG,
     FLAGS_END,
     FORGED,
     FORMS,
     FRAME,
+    GIVEN,
     JOURNAL_LINE,
+    JUDGED,
     MERGED,
+    MIXED,
     OUTCOME,
     PAIR,
     PAPER,
@@ -18,6 +25,7 @@ from xl_report import (
     SETTINGS,
     SHORT,
     SHOW_END,
+    TWICE,
     VERDICT,
     WHOLE,
     matches,
@@ -31,6 +39,7 @@ LINE = {
     'merge': '|'.join((MERGED, BAD_LINE)),
     'flags': '|'.join((FLAG, FLAGS_END, BAD_LINE)),
     'audit': '|'.join((AUDITED, BAD_LINE)),
+    'blame': '|'.join((JUDGED, MIXED, BLAMED_FORK, TWICE, ANSWER, GIVEN, CLEAR, BLAMED, AUDITED, BAD_LINE)),
 }
 # what `negative` writes is no report: lines of a schedule, and behind them `list` lines
 WRITTEN = '(?:[^\n]*\n)'
@@ -38,6 +47,7 @@ SCHEDULES = {('negative', 0): WRITTEN + '*', ('negative', 3): WRITTEN + '*' + BA
 SAID = {8: b'xl: network failed\n', 9: b'xl: store full\n'}
 ENDS = {('replay', 1): b'fork ', ('replay', 0): b'agree', ('show', 0): b'frames ', ('show', 3): b'bad '}
 ENDS.update({('audit', 0): b'yes ', ('audit', 1): b'no ', ('audit', 3): b'bad '})
+ENDS.update({('blame', 0): b'clear', ('blame', 1): b'blame ', ('blame', 3): b'bad '})
 
 
 def why_strange(command, status, text):

@@ -1,4 +1,7 @@
-"""The schedules whose cost tools/measure counts, each of a given length."""
+"""The schedules and journals whose cost tools/measure counts, each of a given length."""
+import hashlib
+import hmac
+import struct
 
 X = 'name x %064x' % 1
 ROUND_OF_FIVE = 25  # lines: five issues, and a delivery of each of their twenty frames
@@ -119,6 +122,35 @@ def submits(lines):
     for number in range(1, lines // 2 + 1):
         made += ['submit 1 %064x' % number, 'all']
     return text_of([*full_lists(5, 4), *made])
+
+
+def pair_key(one, other):
+    return hashlib.sha256(b'XLKY' + struct.pack('>II', *sorted((one, other)))).digest()
+
+
+def validation(sender, receiver, seq, ledger):
+    """A frame of version 1, with its tag, in digits."""
+    said = struct.pack('>2sBBHII32sIIB', b'XL', 1, 2, 41, sender, receiver, bytes.fromhex(ledger), seq, 1, 1)
+    return (said + hmac.new(pair_key(sender, receiver), said, hashlib.sha256).digest()).hex()
+
+
+def journal(me, members, ledgers, name):
+    """A node says each ledger, hears it from each other member, and reports it."""
+    others = [it for it in members if it != me]
+    made = ['xl-journal 1', 'settings %d 28 %s 16 yes 1 1000 0' % (me, ','.join(map(str, members)))]
+    made += ['key %d %s' % (it, pair_key(me, it).hex()) for it in others]
+    for seq in range(1, ledgers + 1):
+        ledger = '%s%063x' % (name, seq)
+        made.append('issue 1000 %d %s full ok = ok' % (seq, ledger))
+        made += ['frame 1000 %s - = vote' % validation(it, me, seq, ledger) for it in others]
+        made.append('reports 1024 - = 1 %d %s' % (seq, ledger))
+    return ''.join(line + '\n' for line in made)
+
+
+def forked(ledgers):
+    """Journals of two nodes that report two ledgers of each sequence: 28 of their 34 members say the one to the one node,
+    and the other to the other."""
+    return journal(1, range(1, 35), ledgers, '1') + journal(40, range(7, 41), ledgers, '2')
 
 
 # a validation of x by member 2 for member 1, version 1, with its tag

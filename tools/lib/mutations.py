@@ -76,6 +76,9 @@ class Seeds:
     def journal(self, dice):
         return dice.choice(self.journals)
 
+    def several_journals(self, dice):
+        return b''.join(self.journal(dice) for _ in range(dice.randint(1, 3)))
+
     def stream(self, dice):
         if dice.random() < 0.3:
             return dice.choice(self.streams)
@@ -87,7 +90,7 @@ class Seeds:
         lines = [b'dial = "ADDRESS"' if line.startswith(b'dial') else line for line in lines]
         lines = [b'listen = "ADDRESS"' if line.startswith(b'listen') else line for line in lines]
         more = [b'validating = false', b'limit = 100', b'turns = 50', b'heartbeat_ms = 100', b'submit = []']
-        more += [b'journal = true', b'roll = ["5850"]', b'threshold = 1']
+        more += [b'journal = true', b'roll = ["5850"]', b'threshold = 1', b'status = "xl.status"']
         more += [b'publisher = [{ number = 1, key = "%s" }]' % (b'01' * 32)]
         lines = dice.sample(more, dice.randint(0, 2)) + [line for line in lines if not line.startswith(b'run_ms')]
         return b'\n'.join(lines)
@@ -287,14 +290,15 @@ class Inputs:
 
     def make(self, number):
         dice = random.Random('%d/%d' % (self.seed, number))
-        commands = ('replay', 'lists', 'show', 'node', 'merge', 'audit', 'flags', 'negative')
-        command = dice.choices(commands, (12, 3, 4, 2, 3, 3, 3, 2))[0]
+        commands = ('replay', 'lists', 'show', 'node', 'merge', 'audit', 'flags', 'negative', 'blame')
+        command = dice.choices(commands, (12, 3, 4, 2, 3, 3, 3, 2, 3))[0]
         if command == 'node':
             text = mutate(dice, self.seeds.setting(dice), self.seeds.setting(dice), OF_SETTINGS)
             return command, settle(dice, text)
         if command == 'show' or dice.random() < 0.02:
             return command, mutate(dice, self.seeds.stream(dice), self.seeds.stream(dice), OF_BYTES)
         makes = {'merge': self.seeds.merge, 'audit': self.seeds.journal, 'flags': self.seeds.votes}
+        makes['blame'] = self.seeds.several_journals
         if command in makes:
             make = makes[command]
             return command, mutate(dice, make(dice), make(dice), OF_LINES)

@@ -125,6 +125,11 @@ def bytes_of_auditor(journal):
     return NODE_BYTES + LEDGER_BYTES * min(limit, 262144)
 
 
+def bytes_of_auditors(journals):
+    """The same of several journals, of which one is stepped at a time."""
+    return max(bytes_of_auditor(b'\n' + behind) for behind in journals.split(b'xl-journal 1\n'))
+
+
 class Report:
     """What `xl replay` wrote: outcomes, and how it ended."""
 

@@ -2,7 +2,6 @@
 
 Each way says what is good: of the ledgers that a node reports without strangers in the same time it reports so many in a
 hundred, and its other figures stay below those named. tools/hostile_peers holds it against that."""
-import hashlib
 import hmac
 import secrets
 import socket
@@ -11,10 +10,10 @@ import threading
 import time
 
 
-def frame(kind, sender, receiver, body, key):
+def frame(kind, sender, receiver, body, key, version=1):
     """A frame with its tag."""
-    said = b"XL\x01" + struct.pack(">BHII", kind, len(body), sender, receiver) + body
-    return said + hmac.new(key, said, hashlib.sha256).digest()
+    said = b"XL" + struct.pack(">BBHII", version, kind, len(body), sender, receiver) + body
+    return said + hmac.digest(key, said, "sha256")
 
 
 def swallow(link):
@@ -28,8 +27,8 @@ def swallow(link):
 class Stranger:
     """Somebody without a key, who calls at one address again and again, in a way of its own."""
 
-    def __init__(self, way, first, second, address):
-        self.way, self.address = way, address
+    def __init__(self, way, first, second, address, late):
+        self.way, self.address, self.late = way, address, late
         body = secrets.token_bytes(32)
         self.members = first, second
         self.frame = frame(5, second, first, body, secrets.token_bytes(32))
@@ -37,6 +36,7 @@ class Stranger:
         threading.Thread(target=self.stay, daemon=True).start()
 
     def stay(self):
+        time.sleep(self.late)
         while True:
             try:
                 with socket.create_connection(self.address, 5) as link:
@@ -122,11 +122,11 @@ CALLERS = ["silent", "calling", "flooding", "fronts", "greeting", "slow"]
 STRANGERS = [*CALLERS, "answering"]
 
 
-def invite(way, pairs):
-    """Strangers at each address at which a node listens, and at the one that nodes dial in vain."""
+def invite(way, pairs, late):
+    """Strangers at each address at which a node listens, so many seconds later, and at the one that nodes dial in vain."""
     if pairs.away:
         Answering(*pairs.away)
     if way != "answering":
         for (first, second), (_, address) in pairs.of.items():
             for each in CALLERS if way == "all" else [way]:
-                Stranger(each, first, second, address)
+                Stranger(each, first, second, address, late)

@@ -34,20 +34,20 @@ def free_ports(count):
 
 
 class Pairs:
-    """A key and an address for each two nodes, of which the first listens. The members that feed them come behind the
-    nodes, and dial all. The nodes dial at fronts, if there are some, behind which the addresses stand."""
+    """A key and an address for each two nodes, of which the first listens. Members that are this program come behind the
+    nodes, and dial all. The nodes dial at fronts, if these are asked for, behind which the addresses stand."""
 
-    def __init__(self, count, feeders, away=None):
+    def __init__(self, count, others, away=None, has_fronts=False):
         self.of = {}
         self.fronts = {}
-        members = count + feeders
+        members = count + others
         ports = free_ports(members * (members - 1) + 1)
         self.away = (away, ("127.0.0.1", ports.pop())) if away else None
         for first in range(1, members + 1):
             for second in range(first + 1, members + 1):
                 address = ("127.0.0.1", ports.pop())
                 self.of[first, second] = (secrets.token_bytes(32), address)
-                if feeders:
+                if has_fronts:
                     self.fronts[first, second] = ("127.0.0.1", ports.pop())
 
     def peer(self, me, other):
@@ -81,6 +81,20 @@ def quorum_of(count):
     return -(-4 * count // 5) if count > 4 else count // 2 + 1
 
 
+class Everybody:
+    """Each node trusts all members."""
+
+    def __init__(self, members):
+        self.members = members
+
+    def lines(self, me):
+        """What stands in the settings of a node: whom it trusts, and its quorum."""
+        return [f"list = {self.members}", f"quorum = {quorum_of(len(self.members))}"]
+
+    def tables(self):
+        return ""
+
+
 class Publishers:
     """So many publishers, all but one of which must name a member. Their rolls let the last member join at a second.
 
@@ -97,7 +111,7 @@ class Publishers:
         named = self.members[:-1] if publisher == len(self.keys) - 1 else self.members
         return rolls.Roll(publisher, 1, first, self.change + HOLDS, tuple(named))
 
-    def lines(self):
+    def lines(self, me):
         """What stands in the settings in the place of a list and a quorum."""
         sealed = [rolls.written(roll, self.keys[roll.publisher]).hex() for roll in self.rolls]
         return [f"threshold = {self.threshold}", "roll = [" + ", ".join(f'"{it}"' for it in sealed) + "]"]
@@ -108,11 +122,11 @@ class Publishers:
         )
 
 
-def settings(me, members, pairs, publishers, milliseconds, asked):
-    """The settings of one node, all of whose members trust all, or whom the publishers name."""
+def settings(me, members, pairs, trust, milliseconds, asked):
+    """The settings of one node, by whom it trusts."""
     lines = [
         f"me = {me}",
-        *(publishers.lines() if publishers else [f"list = {members}", f"quorum = {quorum_of(len(members))}"]),
+        *trust.lines(me),
         f"heartbeat_ms = {asked.heartbeat}",
         f"run_ms = {milliseconds}",
         f"turns = {asked.turns}",
@@ -121,9 +135,8 @@ def settings(me, members, pairs, publishers, milliseconds, asked):
         *(["journal = true"] if asked.journal else []),
         "",
     ]
-    tables = publishers.tables() if publishers else ""
     peers = "".join(pairs.peer(me, other) for other in members if other != me)
-    return "\n".join(lines) + tables + peers + pairs.peer_away()
+    return "\n".join(lines) + trust.tables() + peers + pairs.peer_away()
 
 
 class Node:
@@ -150,6 +163,10 @@ class Node:
             self.process = subprocess.Popen(
                 [self.program, "node"], cwd=self.folder, stdin=source, stdout=reports, stderr=complaints
             )
+
+    def beside(self, name):
+        """Another node with the same number, in a folder of its own."""
+        return Node(self.program, self.folder / name, self.me)
 
     def kill(self):
         self.process.send_signal(signal.SIGKILL)

@@ -112,6 +112,20 @@ FLAGS_FORMS = forms(
     'flags count=#',
 )
 AUDIT_FORMS = forms('yes count=#', 'no entry=#', 'bad line=# code=(?:48) token=#')
+JUDGED_FORMS = forms('journal number=# node=# yes count=#', 'journal number=# node=# no entry=#')
+KEYS_FORMS = forms('keys journal=# journal2=#')
+BLAMED_FORK_FORMS = forms(
+    'fork seq=# journal=# entry=# id={0} quorum=# members={1} journal2=# entry2=# id2={0} quorum2=# members2={1}'
+    ' least=# shown=#'.format(DIGITS, MEMBERS)
+)
+TWICE_FORMS = forms('twice seq=# member=# journal=# entry=# id={0} journal2=# entry2=# id2={0}'.format(DIGITS))
+ANSWER_FORMS = forms(
+    'confessed seq=# member=# id={0} journal=# entry=#'.format(DIGITS),
+    'denied seq=# member=# id={0} journal=#'.format(DIGITS),
+)
+SHOWN_FORMS = BLAMED_FORK_FORMS + TWICE_FORMS + ANSWER_FORMS
+GIVEN_FORMS = forms('heard count=# given drained=#')
+CLEAR_FORMS, BLAMED_FORMS = forms('clear'), forms('blame wrong=# keys=# forks=# twice=#')
 GEN_FORMS = forms('gen rounds=#', *(word + ' count=#' for word in ('lines', 'sent', 'refused', 'built', 'full')))
 FORMS = {
     'replay': OUTCOME_FORMS + SHORT_FORMS + FORGED_FORMS + VERDICT_FORMS + BAD_LINE_FORMS,
@@ -122,6 +136,7 @@ FORMS = {
     'merge': MERGE_FORMS,
     'flags': FLAGS_FORMS,
     'audit': AUDIT_FORMS,
+    'blame': JUDGED_FORMS + KEYS_FORMS + SHOWN_FORMS + GIVEN_FORMS + CLEAR_FORMS + BLAMED_FORMS,
 }
 
 BAD_LINE, OUTCOME, SHORT, FORGED = lines(BAD_LINE_FORMS), lines(OUTCOME_FORMS), lines(SHORT_FORMS), lines(FORGED_FORMS)
@@ -132,6 +147,11 @@ ENTRIES = 'frame|timer|submit|issue|greet|drain|reports|stop|stopped|relist'
 JOURNAL_LINE = '(?:(?:xl-journal 1|settings|key|%s)(?: [^\n]*)?\n)' % ENTRIES
 JOURNAL = '(?:xl-journal 1\n%s*)?' % JOURNAL_LINE
 MERGED, AUDITED = lines(MERGE_FORMS), lines(AUDIT_FORMS)
+JUDGED, MIXED, BLAMED_FORK = lines(JUDGED_FORMS), lines(KEYS_FORMS), lines(BLAMED_FORK_FORMS)
+TWICE, ANSWER = lines(TWICE_FORMS), lines(ANSWER_FORMS)
+# a member's own journals say something of both its words, or none of them was read
+NAMED = '(?:%s(?:%s{2})?)' % (TWICE, ANSWER)
+GIVEN, CLEAR, BLAMED = lines(GIVEN_FORMS), lines(CLEAR_FORMS), lines(BLAMED_FORMS)
 FLAG, FLAGS_END = lines(FLAGS_FORMS[:-1]), lines(FLAGS_FORMS[-1:])
 
 BY_WORD = collections.defaultdict(list)
@@ -152,6 +172,9 @@ WHOLE = {
     ('audit', 0): AUDITED,
     ('audit', 1): AUDITED,
     ('audit', 3): BAD_LINE + '|' + AUDITED,
+    ('blame', 0): JUDGED + '+' + GIVEN + CLEAR,
+    ('blame', 1): JUDGED + '+(?:%s+|%s*%s*)' % (MIXED, BLAMED_FORK, NAMED) + GIVEN + BLAMED,
+    ('blame', 3): JUDGED + '*(?:%s|%s)' % (BAD_LINE, AUDITED),
     ('merge', 0): MERGED + '*',
     ('merge', 3): MERGED + '*' + BAD_LINE,
     ('flags', 0): FLAG + '*' + FLAGS_END,

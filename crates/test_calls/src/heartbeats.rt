@@ -5,8 +5,11 @@ use std::alloc::Global;
 use std::sync::Wait;
 use std::test::Fail;
 use xl_base::{Millis, NodeNo, Status};
+use xl_board::MemBoard;
 use xl_core::CoreEvent;
-use xl_heartbeat::{BeatEnd, Ending, Pulse, Stopping, Timing, beat, status_of_run, take_reports};
+use xl_heartbeat::{
+    BeatEnd, Bulletin, Ending, Pulse, Stopping, Timing, beat, status_of_run, take_reports,
+};
 use xl_io::MemSink;
 use xl_links::{Clock, MemClock};
 use xl_lists::List;
@@ -39,7 +42,8 @@ fn run<W: Wait>(
     let (store, mut pass) = stored(alloc, 1, turns, NodeNo::new(2).ok_or("no member")?)?;
     let clock = MemClock::new(1_000);
     let pulse = pulse_of(20_000, None)?;
-    let end = beat(rt, &store, &clock, sink, &pulse, &mut pass);
+    let untold: Option<Bulletin<MemBoard>> = None;
+    let end = beat(rt, &store, &clock, sink, &pulse, untold, &mut pass).end;
     let last = take_reports(rt, &store, sink, &mut pass);
     Ok((end, last, clock.now()))
 }
@@ -97,7 +101,8 @@ fn followed<W: Wait>(rt: &W, alloc: Global, sink: &mut MemSink) -> Result<(Entri
     let (store, mut pass) = stored(alloc, 1, 100, NodeNo::new(2).ok_or("no member")?)?;
     let clock = MemClock::new(1_000);
     let pulse = pulse_of(5_000, Some(two_publishers()?))?;
-    let _ = beat(rt, &store, &clock, sink, &pulse, &mut pass);
+    let untold: Option<Bulletin<MemBoard>> = None;
+    let _ = beat(rt, &store, &clock, sink, &pulse, untold, &mut pass);
     if !pass.is_whole() {
         return Err(Fail::from("no whole pass"));
     }

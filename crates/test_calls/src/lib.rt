@@ -13,22 +13,12 @@ mod gates;
 #[cfg(test)]
 mod heartbeats;
 #[cfg(test)]
-mod pools;
-#[cfg(test)]
 mod relists;
 #[cfg(test)]
 mod rounds;
 #[cfg(test)]
 mod sessions;
 #[cfg(test)]
-mod settings;
-#[cfg(test)]
-mod spellings;
-#[cfg(test)]
 mod stores;
 #[cfg(test)]
-mod tops;
-#[cfg(test)]
 mod turns;
-#[cfg(test)]
-mod worlds;

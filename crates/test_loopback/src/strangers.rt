@@ -59,6 +59,30 @@ fn who_has_nothing_to_say_is_served(rt: HostRuntime) -> Result<(), Fail> {
 }
 
 #[test]
+fn who_has_nothing_to_say_comes_in_its_turn(rt: HostRuntime) -> Result<(), Fail> {
+    let clock = SystemClock::new(rt.clone()?);
+    let Some((mut listening, mut gone)) = pair(&rt)? else {
+        return Err(Fail::from("no link on loopback"));
+    };
+    let mut quiet = another(&rt, &listening)?;
+    let mut first = another(&rt, &listening)?;
+    let mut second = another(&rt, &listening)?;
+    assert!(rt; opens(&clock, &mut gone));
+    drop(gone);
+    assert!(rt; opens(&clock, &mut quiet));
+    assert!(rt; gives(&clock, &mut first, &front()));
+    assert!(rt; gives(&clock, &mut second, &front()));
+    let mut room = [0; FRAME];
+    // For two seconds it gives way to whoever has shown a frame.
+    assert_eq!(rt; takes(&clock, &mut listening, &mut room), FRAME);
+    listening.judged(Judgement::Forged);
+    clock.wait(2000);
+    assert!(rt; opens(&clock, &mut listening));
+    assert!(rt; listening.read(&mut room) == LinkRead::Idle);
+    Ok(())
+}
+
+#[test]
 fn who_sends_too_much_is_held_back(rt: HostRuntime) -> Result<(), Fail> {
     let clock = SystemClock::new(rt.clone()?);
     let Some((mut listening, mut dialling)) = pair(&rt)? else {

@@ -4,6 +4,7 @@ use std::sync::Wait;
 use std::thread::Threads;
 use std::{fs, io};
 use xl_base::Status;
+use xl_board::MemBoards;
 use xl_io::{MemSink, MemSource, PlainKeeper};
 use xl_links::{MemClock, OpenGate, PlainHub};
 use xl_top::{Host, top};
@@ -47,6 +48,7 @@ impl Run {
             return Err(AllocError);
         };
         let mut hub = PlainHub::new(alloc);
+        let mut boards = MemBoards::new(alloc, true);
         let clock = MemClock::new(BEGINNING);
         let host = Host {
             rt: threads,
@@ -61,6 +63,7 @@ impl Run {
             &mut output,
             keeper,
             &mut hub,
+            &mut boards,
         );
         Ok(Ended {
             status: ended.status,

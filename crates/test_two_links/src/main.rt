@@ -19,6 +19,7 @@ use std::sync::Wait;
 use std::sync::atomic::AtomicU64;
 use std::thread::Threads;
 use xl_base::{NodeNo, Status};
+use xl_board::MemBoards;
 use xl_io::{MemKeeper, MemSink, MemSource};
 use xl_links::{MemHub, OpenGate, PlainLink, Spare};
 use xl_top::{Host, top};
@@ -99,7 +100,16 @@ fn run<R: Threads + Wait + Sync>(
         gate: &OpenGate,
         clock,
     };
-    let ended = top(&host, &words, &mut input, &mut output, keeper, &mut hub);
+    let mut boards = MemBoards::new(alloc, true);
+    let ended = top(
+        &host,
+        &words,
+        &mut input,
+        &mut output,
+        keeper,
+        &mut hub,
+        &mut boards,
+    );
     Ok(Ended {
         status: ended.status,
         output,

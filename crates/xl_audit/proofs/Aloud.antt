@@ -6,7 +6,7 @@ use Rattle.xl_sched.specs.Refusals.{code_of, token_of}
 use Rattle.xl_sched.specs.Tokens.{shown_token}
 use Rattle.xl_audit.specs.declared.judging.BadLine.{BadLine}
 use Rattle.xl_audit.specs.declared.judging.BadLine.TheVariants.{Refused, Keyless}
-use Rattle.xl_audit.specs.Auditing.{Step, goes_on, wrong, refuses, answered, bounded_step, beyond, bad_text, bad_line, newline, closing, ended, rules}
+use Rattle.xl_audit.specs.Auditing.{Step, goes_on, wrong, refuses, line_step_of, bounded_step, beyond, bad_text, bad_line, newline, told_at_end, ended, rules}
 use Rattle.xl_audit.specs.Values.{space}
 
 -- a text that ends with a newline is not empty
@@ -20,12 +20,12 @@ bad_some : (n : ℕ) (why : BadLine) → 0 < length (bad_line n why)
 bad_some n (Refused why) = text_some n (code_of why) (token_of why)
 bad_some n (Keyless member) = text_some n 48 (decimal member)
 
-step_aloud : (n : ℕ) (s : Step) → RefusesAloud (answered n s)
+step_aloud : (n : ℕ) (s : Step) → RefusesAloud (line_step_of n s)
 step_aloud n (goes_on stage) = tt
 step_aloud n (wrong place) = line_some (codes "no " ++ decimal place)
 step_aloud n (refuses why) = bad_some (n + 1) why
 
-closing_some : (n : ℕ) (r : Result ℕ BadLine) → 0 < length (closing n r).text
+closing_some : (n : ℕ) (r : Result ℕ BadLine) → 0 < length (told_at_end n r).text
 closing_some n (Ok entries) = line_some (codes "yes " ++ decimal entries)
 closing_some n (Err why) = bad_some n why
 

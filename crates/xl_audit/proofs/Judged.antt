@@ -20,7 +20,7 @@ use Rattle.xl_audit.specs.declared.written.Written.{Written}
 use Rattle.xl_lines.specs.declared.machine.Verdict.TheVariants.{Good, Found}
 use Rattle.xl_lines.specs.Rules.{Told, Step as LineStep, refuses as line_refuses}
 use Rattle.xl_lines.specs.Told.{told_by, told_from, step_at, step_within}
-use Rattle.xl_audit.specs.Auditing.{Step, Auditing, goes_on, wrong, refuses, answered, beyond, judged, entry_step, step, yes_line, no_line, limits, rules}
+use Rattle.xl_audit.specs.Auditing.{Step, Auditing, goes_on, wrong, refuses, line_step_of, beyond, judgement, entry_step, step, yes_line, no_line, limits, rules}
 use Rattle.xl_audit.specs.Reading.{entry_in}
 use Rattle.xl_audit.specs.Rights.{IsAsked, IsRight, is_right, reply_to, tells_of}
 use Rattle.xl_audit.specs.Saves.{IsCounted}
@@ -92,7 +92,7 @@ kept line = cond_both line.ended line.bytes line.bytes (λ (bytes : List ℕ). b
 -- a line within the limits is taken, whatever was read before it
 abbrev pub IsTaken : ℕ → ℕ → Line → Type 0
 IsTaken left n line =
-    (stage : Stage) → step_at limits rules left (behind n stage) line ≡ answered n (step stage line.bytes)
+    (stage : Stage) → step_at limits rules left (behind n stage) line ≡ line_step_of n (step stage line.bytes)
 
 pub taken : (left n : ℕ) (line : Line) → nat_lt limits.bytes (length line.bytes) ≡ false → nat_lt 0 left ≡ true
     → nat_lt most_bytes (length (content limits.returns line)) ≡ false → (n == most_lines) ≡ false → IsTaken left n line
@@ -101,7 +101,7 @@ taken left n line short may within few stage =
     let bytes : List ℕ = content limits.returns line in
     cond-false (nat_lt limits.bytes (length line.bytes)) (line_refuses (rules.overrun a overrun.LongLine)) (step_within rules left a bytes line.ended) short
     ∙ cond-true (nat_lt 0 left) (rules.step a bytes line.ended) (line_refuses (rules.overrun a overrun.ManyLines)) may
-    ∙ ap (answered n)
+    ∙ ap (line_step_of n)
     (cond-false (nat_lt most_bytes (length bytes)) (refuses (beyond overrun.LongLine)) (if n == most_lines then refuses (beyond overrun.ManyLines) else step stage bytes) within
     ∙ cond-false (n == most_lines) (refuses (beyond overrun.ManyLines)) (step stage bytes) few
     ∙ ap (step stage) (kept line))
@@ -109,26 +109,26 @@ taken left n line short may within few stage =
 -- a line is refused at a limit, or it is taken
 pub at_step : (P : LineStep Auditing → Type 0) (left n : ℕ) (stage : Stage) (line : Line)
     → ((text : List ℕ) → P (line_refuses text))
-    → (IsTaken left n line → P (answered n (step stage line.bytes))) → P (step_at limits rules left (behind n stage) line)
+    → (IsTaken left n line → P (line_step_of n (step stage line.bytes))) → P (step_at limits rules left (behind n stage) line)
 at_step P left n stage line refused told =
     let a : Auditing = behind n stage in
     let bytes : List ℕ = content limits.returns line in
     cond_both (nat_lt limits.bytes (length line.bytes)) (line_refuses (rules.overrun a overrun.LongLine)) (step_within rules left a bytes line.ended) P (λ _. refused _)
     (λ short. cond_both (nat_lt 0 left) (rules.step a bytes line.ended) (line_refuses (rules.overrun a overrun.ManyLines)) P
-    (λ may. cond_both (nat_lt most_bytes (length bytes)) (refuses (beyond overrun.LongLine)) (if n == most_lines then refuses (beyond overrun.ManyLines) else step stage bytes) (λ (s : Step). P (answered n s)) (λ _. refused _)
-    (λ within. cond_both (n == most_lines) (refuses (beyond overrun.ManyLines)) (step stage bytes) (λ (s : Step). P (answered n s)) (λ _. refused _)
-    (λ few. subst (λ (b : List ℕ). P (answered n (step stage b))) (sym (kept line)) (told (taken left n line short may within few)))))
+    (λ may. cond_both (nat_lt most_bytes (length bytes)) (refuses (beyond overrun.LongLine)) (if n == most_lines then refuses (beyond overrun.ManyLines) else step stage bytes) (λ (s : Step). P (line_step_of n s)) (λ _. refused _)
+    (λ within. cond_both (n == most_lines) (refuses (beyond overrun.ManyLines)) (step stage bytes) (λ (s : Step). P (line_step_of n s)) (λ _. refused _)
+    (λ few. subst (λ (b : List ℕ). P (line_step_of n (step stage b))) (sym (kept line)) (told (taken left n line short may within few)))))
     (λ _. refused _))
 
 -- the line of an entry is refused, or its entry is judged
 at_line : (P : LineStep Auditing → Type 0) (left n entries : ℕ) (core : Core) (line : Line)
     → ((text : List ℕ) → P (line_refuses text))
-    → P (answered n (judged core entries (entry_in core.node.keys (tokens line.bytes))))
+    → P (line_step_of n (judgement core entries (entry_in core.node.keys (tokens line.bytes))))
     → P (step_at limits rules left (behind n (Judging core entries)) line)
 at_line P left n entries core line refused told =
     at_step P left n (Judging core entries) line refused
     (λ _. cond_both (bytes_eq (first (tokens line.bytes)) (codes "key")) (refuses (Refused (Late (first (tokens line.bytes)))))
-    (entry_step core entries (tokens line.bytes)) (λ (s : Step). P (answered n s))
+    (entry_step core entries (tokens line.bytes)) (λ (s : Step). P (line_step_of n s))
     (λ _. refused _) (λ _. told))
 
 more : (entries : ℕ) (ws : List Written) (w : Written) → entries + 1 + length ws ≡ entries + length (w ∷ ws)
@@ -153,7 +153,7 @@ module _ (n entries : ℕ) (core : Core) (line : Line) (lines : List Line) (next
   after_entry w = next (behind (n + 1) (Judging (reply_of core w.entry).core (entries + 1)))
 
   abbrev told_of_entry : Result Written SchedRefusal → LineStep Auditing
-  told_of_entry r = answered n (judged core entries r)
+  told_of_entry r = line_step_of n (judgement core entries r)
 
   judged_yes : (r : Result Written SchedRefusal) → entry_in core.node.keys (tokens line.bytes) ≡ r
       → ((w : Written) → (after_entry w).verdict ≡ Good
@@ -165,7 +165,7 @@ module _ (n entries : ℕ) (core : Core) (line : Line) (lines : List Line) (next
       let asked : IsAsked core w =
       held (IsAsked core) (entry_in core.node.keys (tokens line.bytes)) w (entry_fits core (tokens line.bytes)) read in
       cond_both (is_right core w) (goes_on (Judging (reply_of core w.entry).core (entries + 1))) (wrong (entries + 1))
-      (λ (s : Step). IfYes (answered n s))
+      (λ (s : Step). IfYes (line_step_of n s))
       (λ right e.
       let rest = later w e in
       record {
@@ -186,7 +186,7 @@ module _ (n entries : ℕ) (core : Core) (line : Line) (lines : List Line) (next
       let asked : IsAsked core w =
       held (IsAsked core) (entry_in core.node.keys (tokens line.bytes)) w (entry_fits core (tokens line.bytes)) read in
       cond_both (is_right core w) (goes_on (Judging (reply_of core w.entry).core (entries + 1))) (wrong (entries + 1))
-      (λ (s : Step). IfNo (answered n s))
+      (λ (s : Step). IfNo (line_step_of n s))
       (λ right e.
       let rest = later w e in
       record {

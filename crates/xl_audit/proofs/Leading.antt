@@ -12,7 +12,7 @@ use Rattle.xl_audit.specs.declared.judging.Stage.{Stage}
 use Rattle.xl_audit.specs.declared.judging.Stage.TheVariants.{Heading, Setting, Keying, Judging}
 use Rattle.xl_audit.specs.declared.opening.Opening.{Opening}
 use Rattle.xl_audit.specs.declared.written.Written.{Written}
-use Rattle.xl_audit.specs.Auditing.{Step, refuses, entry_step, judged, keyed, keying_step, judging_step, opening_step, step}
+use Rattle.xl_audit.specs.Auditing.{Step, refuses, entry_step, judgement, keyed, keying_step, judging_step, opening_step, step}
 use Rattle.xl_audit.specs.Leading.{Lead, leads, tells, read_lead, entry_lead, opening_lead, keying_lead, judging_lead, lead, judged_lead, StepIsLed, IsAskedIn}
 use Rattle.xl_audit.specs.Opening.{core_of, key_in, unmet}
 use Rattle.xl_audit.specs.Reading.{entry_in}
@@ -23,7 +23,7 @@ use Rattle.xl_audit.proofs.Fitting.{Holds, entry_fits}
 -- THE STEP
 
 read_is : (core : Core) (entries : ℕ) (r : Result Written SchedRefusal)
-    → judged core entries r ≡ judged_lead (read_lead (Judging core entries) r)
+    → judgement core entries r ≡ judged_lead (read_lead (Judging core entries) r)
 read_is core entries (Ok w) = refl
 read_is core entries (Err why) = refl
 

@@ -1,6 +1,8 @@
 -- Digits, pair after pair.
-use Rattle.std.proofs.Common.{◌≡◌, ℕ, ◌+◌, ◌*◌, ◌/◌, ◌%◌, ◌<◌, ◌≤◌, ◌&&◌, Bool, true, false, List, [], ◌∷◌, ◌++◌, length, take, drop, slice_index, Ok, refl, sym, ap, ap₂, ◌∙◌, arith}
+use Rattle.std.proofs.Common.{◌≡◌, ℕ, ◌+◌, ◌*◌, ◌/◌, ◌%◌, ◌<◌, ◌≤◌, ◌==◌, ◌&&◌, Bool, true, List, [], ◌∷◌, ◌++◌, length, take, drop, slice_index, Ok, refl, sym, ap, ap₂, ◌∙◌, arith}
 use Rattle.std.specs.List.{list_all, slice_set}
+use Rattle.std.proofs.lemmas.Bool.{and_parts}
+use Rattle.std.proofs.lemmas.Bool.Decides.{nat_tests}
 use Rattle.std.proofs.lemmas.List.{append_assoc, append-nil, drop_all, take_more}
 use Rattle.hex.specs.Hex.{decode_pairs, encode_lower, encode_with, lower_digits, pair_value}
 use Rattle.hex.proofs.Pairs.{decode_done, decode_start, decode_step, drop-pair, encode_with-drop, prepend}
@@ -35,23 +37,16 @@ more_decoded s room i v fits within high low pair so_far =
       bytes = decode_step s room i v fits within pair so_far.bytes;
     }
 
-false_then : (a b c : Bool) → (a && b) ≡ false → (a && (b && c)) ≡ false
-false_then true true c h = absurd (cc)
-false_then true false c h = refl
-false_then false b c h = refl
-
--- a pair isn't digits
-pub not_digits : (s room : List ℕ) (i : ℕ) → 2 * i + 1 < length s
-    → (is_lower_digit (slice_index s (2 * i)) && is_lower_digit (slice_index s (2 * i + 1))) ≡ false
-    → IsDecoded s room i → list_all is_lower_digit s ≡ false
-not_digits s room i fits other so_far =
-    sym so_far.digits ∙ digits_from s i fits
-    ∙ false_then (is_lower_digit (slice_index s (2 * i))) (is_lower_digit (slice_index s (2 * i + 1)))
-    (list_all is_lower_digit (drop (2 * (i + 1)) s)) other
-
--- each pair is
-pub all_digits : (s room : List ℕ) (i : ℕ) → length s ≤ 2 * i → IsDecoded s room i → list_all is_lower_digit s ≡ true
-all_digits s room i done so_far = sym so_far.digits ∙ ap (list_all is_lower_digit) (drop_all (2 * i) s done)
+-- what is asked of all is so at each pair
+pub digits_here : (s room : List ℕ) (i : ℕ) → 2 * i + 1 < length s → list_all is_lower_digit s ≡ true → IsDecoded s room i
+    → (is_lower_digit (slice_index s (2 * i)) ≡ true) × (is_lower_digit (slice_index s (2 * i + 1)) ≡ true)
+digits_here s room i fits all so_far =
+    let rest : Bool = list_all is_lower_digit (drop (2 * (i + 1)) s) in
+    let high : Bool = is_lower_digit (slice_index s (2 * i)) in
+    let low : Bool = is_lower_digit (slice_index s (2 * i + 1)) in
+    let both : (high && (low && rest)) ≡ true = sym (digits_from s i fits) ∙ so_far.digits ∙ all in
+    let first = and_parts high (low && rest) both in
+    (first.0, (and_parts low rest first.1).0)
 
 pub all_decoded : (s room : List ℕ) (i : ℕ) → length room ≤ i → length s ≤ 2 * i → IsDecoded s room i
     → decode_pairs 0 s ≡ Ok room
@@ -91,3 +86,7 @@ all_stand text bytes i done so_far is =
     ∙ sym (append-nil (take (2 * i) text))
     ∙ ap (λ (xs : List ℕ). take (2 * i) text ++ encode_lower xs) (sym (drop_all i bytes done))
     ∙ so_far
+
+-- a count that is tested to be nothing
+pub is_nothing : (n : ℕ) → (n == 0) ≡ true → n ≡ 0
+is_nothing n h = grind (arith, nat_tests)

@@ -11,11 +11,11 @@ use Rattle.std.proofs.Math.Seq.{drop-append-add, drop-length, take-add}
 use Rattle.xl_base.specs.Counts.{one_more}
 use Rattle.xl_queues.specs.Broadcasts.{queue_of}
 use Rattle.xl_queues.specs.Queues.{Backlog, no_items}
-use Rattle.xl_core.specs.Core.{Core, greeted_frames, all_frames, given_for, drained}
+use Rattle.xl_core.specs.Core.{Core, greeted_frames, all_frames, given_for, after_drain}
 use Rattle.xl_core.specs.Greetings.{greeting_at, greeting_frames, further, further_at}
 use Rattle.xl_core.specs.Items.{frame_of, frames_for}
 use Rattle.xl_core.specs.Node.{Node}
-use Rattle.xl_core.specs.Queues.{waiting_at, at_number, after_taking, fitting, that_fit, frames_in, joined, lost_more}
+use Rattle.xl_core.specs.Queues.{waiting_at, at_number, after_taking, count_fitting, that_fit, frames_in, stream_of, lost_more}
 use Rattle.xl_core.specs.declared.the_core.greeting.Greeting.{Greeting}
 use Rattle.xl_core.specs.declared.item.Item.{Item}
 use Rattle.xl_core.specs.declared.report.Report.{Report}
@@ -27,14 +27,14 @@ Frames = List (Option (List ℕ))
 
 -- how many bytes these frames have
 abbrev bytes_in : Frames → ℕ
-bytes_in fs = length (joined (frames_in fs))
+bytes_in fs = length (stream_of (frames_in fs))
 
 -- WHAT FITS
 
-fitting_most : (fs : Frames) (room : ℕ) → fitting fs room ≤ length fs
+fitting_most : (fs : Frames) (room : ℕ) → count_fitting fs room ≤ length fs
 fitting_most [] room = omega arith
 fitting_most (None ∷ fs) room = omega (arith, fitting_most fs room)
-fitting_most (Some f ∷ fs) room = by (nat_le (length f) room) (fitting fs (room - length f)) (length fs) (fitting_most fs (room - length f))
+fitting_most (Some f ∷ fs) room = by (nat_le (length f) room) (count_fitting fs (room - length f)) (length fs) (fitting_most fs (room - length f))
   where
     by : (b : Bool) (k n : ℕ) → k ≤ n → cond b (suc k) 0 ≤ suc n
     by true k n le = omega (arith, le)
@@ -45,47 +45,47 @@ given_within : (fs : Frames) (room : ℕ) → bytes_in (that_fit fs room) ≤ ro
 given_within [] room = omega arith
 given_within (None ∷ fs) room = given_within fs room
 given_within (Some f ∷ fs) room =
-    cond_both (nat_le (length f) room) (suc (fitting fs (room - length f))) 0 (λ (n : ℕ). bytes_in (take n (Some f ∷ fs)) ≤ room)
-    (λ fits. omega (arith, leb-true (length f) room fits, given_within fs (room - length f), length-append f (joined (frames_in (that_fit fs (room - length f))))))
+    cond_both (nat_le (length f) room) (suc (count_fitting fs (room - length f))) 0 (λ (n : ℕ). bytes_in (take n (Some f ∷ fs)) ≤ room)
+    (λ fits. omega (arith, leb-true (length f) room fits, given_within fs (room - length f), length-append f (stream_of (frames_in (that_fit fs (room - length f))))))
     (λ _. omega arith)
 
 -- what fits into a part of a room, and then into what is left of it, is what fits into the room
 fits_more : (fs : Frames) (part room : ℕ) → part ≤ room
-    → fitting fs room ≡ fitting fs part + fitting (drop (fitting fs part) fs) (room - bytes_in (that_fit fs part))
+    → count_fitting fs room ≡ count_fitting fs part + count_fitting (drop (count_fitting fs part) fs) (room - bytes_in (that_fit fs part))
 fits_more [] part room le = refl
 fits_more (None ∷ fs) part room le = omega (arith, fits_more fs part room le)
 fits_more (Some f ∷ fs) part room le =
-    cond_both (nat_le (length f) part) (suc (fitting fs (part - length f))) 0
-    (λ (n : ℕ). fitting (Some f ∷ fs) room ≡ n + fitting (drop n (Some f ∷ fs)) (room - bytes_in (take n (Some f ∷ fs))))
+    cond_both (nat_le (length f) part) (suc (count_fitting fs (part - length f))) 0
+    (λ (n : ℕ). count_fitting (Some f ∷ fs) room ≡ n + count_fitting (drop n (Some f ∷ fs)) (room - bytes_in (take n (Some f ∷ fs))))
     (λ fits.
     let short : length f ≤ part = leb-true (length f) part fits in
-    let given : List ℕ = joined (frames_in (that_fit fs (part - length f))) in
+    let given : List ℕ = stream_of (frames_in (that_fit fs (part - length f))) in
     let left : room - length f - length given ≡ room - length (f ++ given) = omega (arith, length-append f given) in
-    cond-true (nat_le (length f) room) (suc (fitting fs (room - length f))) 0 (le-leb (length f) room (omega (arith, short, le)))
+    cond-true (nat_le (length f) room) (suc (count_fitting fs (room - length f))) 0 (le-leb (length f) room (omega (arith, short, le)))
     ∙ omega (
       arith,
       fits_more fs (part - length f) (room - length f) (omega (arith, short, le)),
-      ap (fitting (drop (fitting fs (part - length f)) fs)) left,
+      ap (count_fitting (drop (count_fitting fs (part - length f)) fs)) left,
     ))
-    (λ _. let whole : room - 0 ≡ room = omega arith in ap (fitting (Some f ∷ fs)) (sym whole) ∙ omega arith)
+    (λ _. let whole : room - 0 ≡ room = omega arith in ap (count_fitting (Some f ∷ fs)) (sym whole) ∙ omega arith)
 
 -- if not all of the first fit, none of the others does
-fits_front : (xs ys : Frames) (room : ℕ) → fitting xs room < length xs → fitting (xs ++ ys) room ≡ fitting xs room
+fits_front : (xs ys : Frames) (room : ℕ) → count_fitting xs room < length xs → count_fitting (xs ++ ys) room ≡ count_fitting xs room
 fits_front [] ys room lt = absurd (omega (arith, lt))
 fits_front (None ∷ xs) ys room lt = ap suc (fits_front xs ys room (omega (arith, lt)))
 fits_front (Some f ∷ xs) ys room lt =
-    by (nat_le (length f) room) (fitting xs (room - length f)) (fitting (xs ++ ys) (room - length f)) (length xs) (fits_front xs ys (room - length f)) lt
+    by (nat_le (length f) room) (count_fitting xs (room - length f)) (count_fitting (xs ++ ys) (room - length f)) (length xs) (fits_front xs ys (room - length f)) lt
   where
     by : (b : Bool) (k k' n : ℕ) → (k < n → k' ≡ k) → cond b (suc k) 0 < suc n → cond b (suc k') 0 ≡ cond b (suc k) 0
     by true k k' n same lt = ap suc (same (omega (arith, lt)))
     by false k k' n same lt = refl
 
 -- if all of them do, the others are behind them
-fits_behind : (xs ys : Frames) (room : ℕ) → fitting xs room ≡ length xs → length xs ≤ fitting (xs ++ ys) room
+fits_behind : (xs ys : Frames) (room : ℕ) → count_fitting xs room ≡ length xs → length xs ≤ count_fitting (xs ++ ys) room
 fits_behind [] ys room all = omega arith
 fits_behind (None ∷ xs) ys room all = omega (arith, fits_behind xs ys room (omega (arith, all)))
 fits_behind (Some f ∷ xs) ys room all =
-    by (nat_le (length f) room) (fitting xs (room - length f)) (fitting (xs ++ ys) (room - length f)) (length xs) (fits_behind xs ys (room - length f)) all
+    by (nat_le (length f) room) (count_fitting xs (room - length f)) (count_fitting (xs ++ ys) (room - length f)) (length xs) (fits_behind xs ys (room - length f)) all
   where
     by : (b : Bool) (k k' n : ℕ) → (k ≡ n → n ≤ k') → cond b (suc k) 0 ≡ suc n → suc n ≤ cond b (suc k') 0
     by true k k' n then_ all = omega (arith, then_ (omega (arith, all)))
@@ -93,28 +93,28 @@ fits_behind (Some f ∷ xs) ys room all =
 
 -- of frames in front of others, so many fit: not all of the front and nothing more, or all of it
 data Fits (xs ys : Frames) (room : ℕ) : Type 0 where
-  in_front : (few : fitting xs room < length xs) (same : fitting (xs ++ ys) room ≡ fitting xs room) → Fits xs ys room
-  behind : (all : fitting xs room ≡ length xs) (more : length xs ≤ fitting (xs ++ ys) room) → Fits xs ys room
+  in_front : (few : count_fitting xs room < length xs) (same : count_fitting (xs ++ ys) room ≡ count_fitting xs room) → Fits xs ys room
+  behind : (all : count_fitting xs room ≡ length xs) (more : length xs ≤ count_fitting (xs ++ ys) room) → Fits xs ys room
 
 fits : (xs ys : Frames) (room : ℕ) → Fits xs ys room
-fits xs ys room = elim (cases_lt (fitting xs room) (length xs)) [
+fits xs ys room = elim (cases_lt (count_fitting xs room) (length xs)) [
   | inl lt ↦ in_front lt (fits_front xs ys room lt)
-  | inr ge ↦ let all : fitting xs room ≡ length xs = omega (arith, ge, fitting_most xs room) in behind all (fits_behind xs ys room all)
+  | inr ge ↦ let all : count_fitting xs room ≡ length xs = omega (arith, ge, fitting_most xs room) in behind all (fits_behind xs ys room all)
 ]
 
 -- WHAT IS LEFT OF THE FRAMES
 
 frames_left : (xs ys : Frames) (room : ℕ) → Fits xs ys room
-    → drop (fitting xs room) xs ++ drop (length (drop (length xs) (that_fit (xs ++ ys) room))) ys ≡ drop (fitting (xs ++ ys) room) (xs ++ ys)
+    → drop (count_fitting xs room) xs ++ drop (length (drop (length xs) (that_fit (xs ++ ys) room))) ys ≡ drop (count_fitting (xs ++ ys) room) (xs ++ ys)
 frames_left xs ys room (in_front few same) =
-    let n : ℕ = fitting (xs ++ ys) room in
+    let n : ℕ = count_fitting (xs ++ ys) room in
     let long : length (that_fit (xs ++ ys) room) ≡ n = length-take-le n (xs ++ ys) (fitting_most (xs ++ ys) room) in
     let none : length (drop (length xs) (that_fit (xs ++ ys) room)) ≡ 0 = omega (arith, length-drop (length xs) (that_fit (xs ++ ys) room), long, few, same) in
-    ap (λ (k : ℕ). drop (fitting xs room) xs ++ drop k ys) none
-    ∙ sym (drop-append-le (fitting xs room) xs ys (omega (arith, few)))
+    ap (λ (k : ℕ). drop (count_fitting xs room) xs ++ drop k ys) none
+    ∙ sym (drop-append-le (count_fitting xs room) xs ys (omega (arith, few)))
     ∙ ap (λ (k : ℕ). drop k (xs ++ ys)) (sym same)
 frames_left xs ys room (behind all more) =
-    let n : ℕ = fitting (xs ++ ys) room in
+    let n : ℕ = count_fitting (xs ++ ys) room in
     let long : length (that_fit (xs ++ ys) room) ≡ n = length-take-le n (xs ++ ys) (fitting_most (xs ++ ys) room) in
     let some : length (drop (length xs) (that_fit (xs ++ ys) room)) ≡ n - length xs = length-drop (length xs) (that_fit (xs ++ ys) room) ∙ ap (λ (k : ℕ). k - length xs) long in
     let whole : length xs + (n - length xs) ≡ n = omega (arith, more) in
@@ -213,42 +213,42 @@ module _ (core : Core) (to part room : ℕ) (le : part ≤ room) where
   ys = frames_for core.node core.waiting to
 
   abbrev after : Core
-  after = drained core to part
+  after = after_drain core to part
 
   abbrev left : ℕ
   left = room - bytes_in (given_for core to part)
 
-  greeted_after : greeted_frames after to ≡ drop (fitting xs part) xs
+  greeted_after : greeted_frames after to ≡ drop (count_fitting xs part) xs
   greeted_after =
-      ap (λ (o : Option Greeting). greeting_frames core.node o to) (greeting_then core.greetings to (fitting xs part))
-      ∙ greeted_left core.node to (fitting xs part) (greeting_at core.greetings to)
+      ap (λ (o : Option Greeting). greeting_frames core.node o to) (greeting_then core.greetings to (count_fitting xs part))
+      ∙ greeted_left core.node to (count_fitting xs part) (greeting_at core.greetings to)
 
-  all_after : all_frames after to ≡ drop (fitting (xs ++ ys) part) (xs ++ ys)
+  all_after : all_frames after to ≡ drop (count_fitting (xs ++ ys) part) (xs ++ ys)
   all_after =
       ap (λ (fs : Frames). fs ++ frames_for core.node after.waiting to) greeted_after
-      ∙ ap (λ (fs : Frames). drop (fitting xs part) xs ++ fs) (left_there (frame_of core.node to) core.waiting to (drop (length xs) (that_fit (xs ++ ys) part)))
+      ∙ ap (λ (fs : Frames). drop (count_fitting xs part) xs ++ fs) (left_there (frame_of core.node to) core.waiting to (drop (length xs) (that_fit (xs ++ ys) part)))
       ∙ frames_left xs ys part (fits xs ys part)
 
   -- what is given then
   pub given_both : given_for core to room ≡ given_for core to part ++ given_for after to left
   given_both =
       ap (λ (k : ℕ). take k (xs ++ ys)) (fits_more (xs ++ ys) part room le)
-      ∙ take-add (fitting (xs ++ ys) part) (fitting (drop (fitting (xs ++ ys) part) (xs ++ ys)) left) (xs ++ ys)
+      ∙ take-add (count_fitting (xs ++ ys) part) (count_fitting (drop (count_fitting (xs ++ ys) part) (xs ++ ys)) left) (xs ++ ys)
       ∙ ap (λ (fs : Frames). given_for core to part ++ that_fit fs left) (sym all_after)
 
-  headers_both : (f : Fits xs ys part) → fitting xs part + fitting (drop (fitting xs part) xs) left ≡ fitting xs room
+  headers_both : (f : Fits xs ys part) → count_fitting xs part + count_fitting (drop (count_fitting xs part) xs) left ≡ count_fitting xs room
   headers_both (in_front few same) =
-      ap (λ (k : ℕ). fitting xs part + fitting (drop (fitting xs part) xs) (room - bytes_in (take k (xs ++ ys)))) same
-      ∙ ap (λ (fs : Frames). fitting xs part + fitting (drop (fitting xs part) xs) (room - bytes_in fs)) (take-append-le (fitting xs part) xs ys (omega (arith, few)))
+      ap (λ (k : ℕ). count_fitting xs part + count_fitting (drop (count_fitting xs part) xs) (room - bytes_in (take k (xs ++ ys)))) same
+      ∙ ap (λ (fs : Frames). count_fitting xs part + count_fitting (drop (count_fitting xs part) xs) (room - bytes_in fs)) (take-append-le (count_fitting xs part) xs ys (omega (arith, few)))
       ∙ sym (fits_more xs part room le)
   headers_both (behind all more) =
-      let none : drop (fitting xs part) xs ≡ [] = ap (λ (k : ℕ). drop k xs) all ∙ drop-length xs in
-      let none_left : (k : ℕ) → fitting (drop (fitting xs part) xs) k ≡ 0 = λ k. ap (λ (fs : Frames). fitting fs k) none in
+      let none : drop (count_fitting xs part) xs ≡ [] = ap (λ (k : ℕ). drop k xs) all ∙ drop-length xs in
+      let none_left : (k : ℕ) → count_fitting (drop (count_fitting xs part) xs) k ≡ 0 = λ k. ap (λ (fs : Frames). count_fitting fs k) none in
       omega (arith, none_left left, none_left (room - bytes_in (that_fit xs part)), fits_more xs part room le)
 
-  seam : (f : Fits xs ys part) → length xs - fitting (xs ++ ys) part ≡ length (drop (fitting xs part) xs)
-  seam (in_front few same) = omega (arith, few, same, length-drop (fitting xs part) xs)
-  seam (behind all more) = omega (arith, all, more, length-drop (fitting xs part) xs)
+  seam : (f : Fits xs ys part) → length xs - count_fitting (xs ++ ys) part ≡ length (drop (count_fitting xs part) xs)
+  seam (in_front few same) = omega (arith, few, same, length-drop (count_fitting xs part) xs)
+  seam (behind all more) = omega (arith, all, more, length-drop (count_fitting xs part) xs)
 
   drop_both : (i : ℕ) (fs bs : Frames) → drop i (fs ++ bs) ≡ drop i fs ++ drop (i - length fs) bs
   drop_both zero fs bs = let none : 0 - length fs ≡ 0 = omega arith in ap (λ (k : ℕ). fs ++ drop k bs) (sym none)
@@ -258,39 +258,39 @@ module _ (core : Core) (to part room : ℕ) (le : part ≤ room) where
   waits_both : (f : Fits xs ys part)
       → drop (length xs) (given_for core to part) ++ drop (length (greeted_frames after to)) (given_for after to left) ≡ drop (length xs) (given_for core to room)
   waits_both f =
-      let long : length (given_for core to part) ≡ fitting (xs ++ ys) part = length-take-le (fitting (xs ++ ys) part) (xs ++ ys) (fitting_most (xs ++ ys) part) in
+      let long : length (given_for core to part) ≡ count_fitting (xs ++ ys) part = length-take-le (count_fitting (xs ++ ys) part) (xs ++ ys) (fitting_most (xs ++ ys) part) in
       let same : length (greeted_frames after to) ≡ length xs - length (given_for core to part) = ap length greeted_after ∙ sym (seam f) ∙ ap (λ (k : ℕ). length xs - k) (sym long) in
       ap (λ (k : ℕ). drop (length xs) (given_for core to part) ++ drop k (given_for after to left)) same
       ∙ sym (drop_both (length xs) (given_for core to part) (given_for after to left))
       ∙ ap (drop (length xs)) (sym given_both)
 
   -- and the core that is left
-  pub drained_both : drained core to room ≡ drained after to left
+  pub drained_both : after_drain core to room ≡ after_drain after to left
   drained_both =
-      let headers : further_at core.greetings to (fitting xs room) ≡ further_at after.greetings to (fitting (greeted_frames after to) left) =
+      let headers : further_at core.greetings to (count_fitting xs room) ≡ further_at after.greetings to (count_fitting (greeted_frames after to) left) =
       ap (further_at core.greetings to) (sym (headers_both (fits xs ys part)))
-      ∙ sym (handed_both core.greetings to (fitting xs part) (fitting (drop (fitting xs part) xs) left))
-      ∙ ap (λ (fs : Frames). further_at after.greetings to (fitting fs left)) (sym greeted_after) in
+      ∙ sym (handed_both core.greetings to (count_fitting xs part) (count_fitting (drop (count_fitting xs part) xs) left))
+      ∙ ap (λ (fs : Frames). further_at after.greetings to (count_fitting fs left)) (sym greeted_after) in
       let waits : at_number core.waiting to (after_taking (drop (length xs) (given_for core to room))) ≡ at_number after.waiting to (after_taking (drop (length (greeted_frames after to)) (given_for after to left))) =
       ap (λ (fs : Frames). at_number core.waiting to (after_taking fs)) (sym (waits_both (fits xs ys part)))
       ∙ sym (taken_both core.waiting to (drop (length xs) (given_for core to part)) (drop (length (greeted_frames after to)) (given_for after to left))) in
       ap (λ (gs : List (Option Greeting)). let c : Core = record core { greetings = gs; waiting = at_number core.waiting to (after_taking (drop (length xs) (given_for core to room))) } in c) headers
-      ∙ ap (λ (ws : List (Backlog Item)). let c : Core = record core { greetings = further_at after.greetings to (fitting (greeted_frames after to) left); waiting = ws } in c) waits
+      ∙ ap (λ (ws : List (Backlog Item)). let c : Core = record core { greetings = further_at after.greetings to (count_fitting (greeted_frames after to) left); waiting = ws } in c) waits
 
-  joined_both : (fs gs : Frames) → joined (frames_in (fs ++ gs)) ≡ joined (frames_in fs) ++ joined (frames_in gs)
+  joined_both : (fs gs : Frames) → stream_of (frames_in (fs ++ gs)) ≡ stream_of (frames_in fs) ++ stream_of (frames_in gs)
   joined_both fs gs =
-      ap joined (filter_map-append (λ (o : Option (List ℕ)). o) fs gs) ∙ flat_map-append (λ (f : List ℕ). f) (frames_in fs) (frames_in gs)
+      ap stream_of (filter_map-append (λ (o : Option (List ℕ)). o) fs gs) ∙ flat_map-append (λ (f : List ℕ). f) (frames_in fs) (frames_in gs)
 
   pub bytes_both : bytes_given core to room ≡ bytes_given core to part ++ bytes_given after to left
   bytes_both =
-      ap (λ (fs : Frames). joined (frames_in fs)) given_both ∙ joined_both (given_for core to part) (given_for after to left)
+      ap (λ (fs : Frames). stream_of (frames_in fs)) given_both ∙ joined_both (given_for core to part) (given_for after to left)
 
   pub part_within : bytes_in (given_for core to part) ≤ part
   part_within = given_within (all_frames core to) part
 
 -- NOTHING IS LEFT BUT WHAT IS PASSED OVER
 
-all_pass : (fs : Frames) (room : ℕ) → frames_in fs ≡ [] → fitting fs room ≡ length fs
+all_pass : (fs : Frames) (room : ℕ) → frames_in fs ≡ [] → count_fitting fs room ≡ length fs
 all_pass [] room none = refl
 all_pass (None ∷ fs) room none = ap suc (all_pass fs room none)
 all_pass (Some f ∷ fs) room none = absurd cc
@@ -306,13 +306,13 @@ module _ (core : Core) (to part room : ℕ) (none : frames_in (all_frames core t
       ap (λ (k : ℕ). take k (all_frames core to)) (all_pass (all_frames core to) part none ∙ sym (all_pass (all_frames core to) room none))
 
   -- then every room is as good
-  pub same_drained : drained core to part ≡ drained core to room
+  pub same_drained : after_drain core to part ≡ after_drain core to room
   same_drained =
-      let headers : fitting (greeted_frames core to) part ≡ fitting (greeted_frames core to) room =
+      let headers : count_fitting (greeted_frames core to) part ≡ count_fitting (greeted_frames core to) room =
       let front : frames_in (greeted_frames core to) ≡ [] = front_none (greeted_frames core to) (frames_for core.node core.waiting to) none in
       all_pass (greeted_frames core to) part front ∙ sym (all_pass (greeted_frames core to) room front) in
       ap (λ (k : ℕ). let c : Core = record core { greetings = further_at core.greetings to k; waiting = at_number core.waiting to (after_taking (drop (length (greeted_frames core to)) (given_for core to part))) } in c) headers
-      ∙ ap (λ (fs : Frames). let c : Core = record core { greetings = further_at core.greetings to (fitting (greeted_frames core to) room); waiting = at_number core.waiting to (after_taking (drop (length (greeted_frames core to)) fs)) } in c) same_given
+      ∙ ap (λ (fs : Frames). let c : Core = record core { greetings = further_at core.greetings to (count_fitting (greeted_frames core to) room); waiting = at_number core.waiting to (after_taking (drop (length (greeted_frames core to)) fs)) } in c) same_given
 
 -- a room is as long as it was once it was written to
 pub still_long : {X : Type 0} (len : ℕ) (items now : List X) → len ≡ length items → length now ≡ length items
@@ -332,14 +332,14 @@ pub drain_begun : (start : Core) (to room : ℕ) → HasDrained start to room st
 drain_begun start to room = record { bytes = refl; core = refl; node = refl }
 
 module _ (start : Core) (to room : ℕ) (now after : Core) (left part count : ℕ) (given more : List ℕ)
-    (so_far : HasDrained start to room now left given) (is : after ≡ drained now to part)
+    (so_far : HasDrained start to room now left given) (is : after ≡ after_drain now to part)
     (adds : more ≡ given ++ bytes_given now to part) where
   -- a piece more was drained
   pub drain_more : part ≤ left → count ≡ bytes_in (given_for now to part) → HasDrained start to room after (left - count) more
   drain_more le many =
       subst (λ (k : ℕ). HasDrained start to room after (left - k) more) (sym many)
       (subst (λ (c : Core). HasDrained start to room c (left - bytes_in (given_for now to part)) more) (sym is)
-      (subst (λ (bytes : List ℕ). HasDrained start to room (drained now to part) (left - bytes_in (given_for now to part)) bytes) (sym adds) (record {
+      (subst (λ (bytes : List ℕ). HasDrained start to room (after_drain now to part) (left - bytes_in (given_for now to part)) bytes) (sym adds) (record {
         bytes = so_far.bytes ∙ ap (λ (bytes : List ℕ). given ++ bytes) (bytes_both now to part left le)
             ∙ sym (append_assoc given (bytes_given now to part) _);
         core = so_far.core ∙ drained_both now to part left le;
@@ -347,16 +347,16 @@ module _ (start : Core) (to room : ℕ) (now after : Core) (left part count : �
       })))
 
   -- nothing is left that is given
-  pub drain_over : frames_in (all_frames now to) ≡ [] → (after ≡ drained start to room) × (more ≡ bytes_given start to room)
+  pub drain_over : frames_in (all_frames now to) ≡ [] → (after ≡ after_drain start to room) × (more ≡ bytes_given start to room)
   drain_over none = (
     is ∙ same_drained now to part left none ∙ sym so_far.core,
-    adds ∙ ap (λ (fs : Frames). given ++ joined (frames_in fs)) (same_given now to part left none) ∙ sym so_far.bytes,
+    adds ∙ ap (λ (fs : Frames). given ++ stream_of (frames_in fs)) (same_given now to part left none) ∙ sym so_far.bytes,
   )
 
   -- or the whole rest was drained
-  pub drain_all : part ≡ left → (after ≡ drained start to room) × (more ≡ bytes_given start to room)
+  pub drain_all : part ≡ left → (after ≡ after_drain start to room) × (more ≡ bytes_given start to room)
   drain_all same = (
-    is ∙ ap (drained now to) same ∙ sym so_far.core,
+    is ∙ ap (after_drain now to) same ∙ sym so_far.core,
     adds ∙ ap (λ (k : ℕ). given ++ bytes_given now to k) same ∙ sym so_far.bytes,
   )
 

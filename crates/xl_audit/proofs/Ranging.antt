@@ -3,45 +3,50 @@ use Rattle.std.proofs.Common.{◌≡◌, ◌++◌, ◌+◌, ◌-◌, ◌<◌, �
 use Rattle.std.specs.Prelude.{find}
 use Rattle.std.specs.List.{flat_map, range_with_len}
 use Rattle.std.proofs.lemmas.Bool.{cases_lt}
+use Rattle.xl_base.specs.Members.{greatest_node_no}
 
-one_left : (n : ℕ) → n ≤ 64 → 65 - n ≡ suc (65 - (n + 1))
+-- the number behind the greatest of a member
+abbrev pub behind_all : ℕ
+behind_all = greatest_node_no + 1
+
+one_left : (n : ℕ) → n ≤ greatest_node_no → behind_all - n ≡ suc (behind_all - (n + 1))
 one_left n h = omega (arith, h)
 
-range_from : (n : ℕ) → n ≤ 64 → range_with_len n (65 - n) ≡ n ∷ range_with_len (n + 1) (65 - (n + 1))
+range_from : (n : ℕ) → n ≤ greatest_node_no → range_with_len n (behind_all - n) ≡ n ∷ range_with_len (n + 1) (behind_all - (n + 1))
 range_from n h = ap (range_with_len n) (one_left n h)
 
 -- the part of a number is added to the text
-pub text_goes_on : (f : ℕ → List ℕ) (n : ℕ) (so_far now whole : List ℕ) → n ≤ 64 → now ≡ so_far ++ f n
-    → so_far ++ flat_map f (range_with_len n (65 - n)) ≡ whole
-    → now ++ flat_map f (range_with_len (n + 1) (65 - (n + 1))) ≡ whole
+pub text_goes_on : (f : ℕ → List ℕ) (n : ℕ) (so_far now whole : List ℕ) → n ≤ greatest_node_no → now ≡ so_far ++ f n
+    → so_far ++ flat_map f (range_with_len n (behind_all - n)) ≡ whole
+    → now ++ flat_map f (range_with_len (n + 1) (behind_all - (n + 1))) ≡ whole
 text_goes_on f n so_far now whole h more is =
-    ap (λ (xs : List ℕ). xs ++ flat_map f (range_with_len (n + 1) (65 - (n + 1)))) more
-    ∙ (append_assoc so_far (f n) (flat_map f (range_with_len (n + 1) (65 - (n + 1))))
+    ap (λ (xs : List ℕ). xs ++ flat_map f (range_with_len (n + 1) (behind_all - (n + 1)))) more
+    ∙ (append_assoc so_far (f n) (flat_map f (range_with_len (n + 1) (behind_all - (n + 1))))
     ∙ (ap (λ (ns : List ℕ). so_far ++ flat_map f ns) (sym (range_from n h)) ∙ is))
 
 -- and nothing is to come behind the last
-pub text_ends : (f : ℕ → List ℕ) (n : ℕ) (so_far whole : List ℕ) → 65 ≤ n
-    → so_far ++ flat_map f (range_with_len n (65 - n)) ≡ whole → so_far ≡ whole
+pub text_ends : (f : ℕ → List ℕ) (n : ℕ) (so_far whole : List ℕ) → behind_all ≤ n
+    → so_far ++ flat_map f (range_with_len n (behind_all - n)) ≡ whole → so_far ≡ whole
 text_ends f n so_far whole h is =
-    let none : 65 - n ≡ 0 = omega (arith, h) in
+    let none : behind_all - n ≡ 0 = omega (arith, h) in
     sym (append-nil so_far) ∙ (ap (λ (k : ℕ). so_far ++ flat_map f (range_with_len n k)) (sym none) ∙ is)
 
 -- a number that passes is the first
-pub found_first : (p : ℕ → Bool) (n : ℕ) → n ≤ 64 → p n ≡ true → find p (range_with_len n (65 - n)) ≡ Some n
+pub found_first : (p : ℕ → Bool) (n : ℕ) → n ≤ greatest_node_no → p n ≡ true → find p (range_with_len n (behind_all - n)) ≡ Some n
 found_first p n h passes =
     ap (find p) (range_from n h)
-    ∙ ap (λ (b : Bool). cond b (Some n) (find p (range_with_len (n + 1) (65 - (n + 1))))) passes
+    ∙ ap (λ (b : Bool). cond b (Some n) (find p (range_with_len (n + 1) (behind_all - (n + 1))))) passes
 
 -- one that doesn't is left out
-pub found_later : (p : ℕ → Bool) (n : ℕ) → n ≤ 64 → p n ≡ false
-    → find p (range_with_len n (65 - n)) ≡ find p (range_with_len (n + 1) (65 - (n + 1)))
+pub found_later : (p : ℕ → Bool) (n : ℕ) → n ≤ greatest_node_no → p n ≡ false
+    → find p (range_with_len n (behind_all - n)) ≡ find p (range_with_len (n + 1) (behind_all - (n + 1)))
 found_later p n h fails =
     ap (find p) (range_from n h)
-    ∙ ap (λ (b : Bool). cond b (Some n) (find p (range_with_len (n + 1) (65 - (n + 1))))) fails
+    ∙ ap (λ (b : Bool). cond b (Some n) (find p (range_with_len (n + 1) (behind_all - (n + 1))))) fails
 
 -- none is left behind the last
-pub found_none : (p : ℕ → Bool) (n : ℕ) → 65 ≤ n → find p (range_with_len n (65 - n)) ≡ None
-found_none p n h = let none : 65 - n ≡ 0 = omega (arith, h) in ap (λ (k : ℕ). find p (range_with_len n k)) none
+pub found_none : (p : ℕ → Bool) (n : ℕ) → behind_all ≤ n → find p (range_with_len n (behind_all - n)) ≡ None
+found_none p n h = let none : behind_all - n ≡ 0 = omega (arith, h) in ap (λ (k : ℕ). find p (range_with_len n k)) none
 
 -- three parts that are added to a text, one after the other
 pub three_parts : (old first second now a b c : List ℕ) → first ≡ old ++ a → second ≡ first ++ b → now ≡ second ++ c

@@ -18,7 +18,7 @@ use Rattle.xl_core.specs.declared.report.Report.{Report}
 use Rattle.xl_core.specs.declared.taken.Taken.{Taken}
 use Rattle.xl_core.specs.declared.taken.Taken.TheVariants as taken
 use Rattle.xl_core.specs.Answers.{Answer, Refused, Took, Beats, Done, Gave, Handed, Told}
-use Rattle.xl_core.specs.Queues.{joined}
+use Rattle.xl_core.specs.Queues.{stream_of}
 use Rattle.xl_core.specs.Refusals.{code_of}
 use Rattle.xl_audit.specs.Replies.{refusal_text, taken_text, issued_text, moved_text, beat_text, bytes_text, report_text, told_text, reply_text}
 use Rattle.xl_audit.specs.Values.{space, frame_values, tag_values, header_values, values_text}
@@ -128,7 +128,7 @@ reply_line (Refused why) = refusal_line why
 reply_line (Took what) = taken_line what
 reply_line (Beats told) = beat_line told
 reply_line Done = refl
-reply_line (Gave to frames) = word_line (bytes_text (joined frames)) (bytes_word (joined frames))
+reply_line (Gave to frames) = word_line (bytes_text (stream_of frames)) (bytes_word (stream_of frames))
 reply_line (Handed reports) =
     both_lines (decimal (length reports)) (flat_map report_text reports) (decimal_line (length reports)) (lines_all report_text report_line reports)
 reply_line (Told stopped) = told_line stopped

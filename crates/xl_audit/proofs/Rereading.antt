@@ -26,7 +26,7 @@ use Rattle.xl_audit.specs.declared.judging.Stage.TheVariants.{Heading, Setting, 
 use Rattle.xl_audit.specs.Limits.{most_bytes, most_lines}
 use Rattle.xl_audit.specs.declared.opening.Opening.{Opening}
 use Rattle.xl_audit.specs.declared.written.Written.{Written}
-use Rattle.xl_audit.specs.Auditing.{goes_on, wrong, refuses, answered, judged, entry_step, opening_step, keyed, set, unless_keyless, ended, closing, step, yes_line, limits, rules, audit_of}
+use Rattle.xl_audit.specs.Auditing.{goes_on, wrong, refuses, line_step_of, judgement, entry_step, opening_step, keyed, set, unless_keyless, ended, told_at_end, step, yes_line, limits, rules, audit_of}
 use Rattle.xl_audit.specs.Journals.{entries_text, head_text, journal_text, key_lines, key_text, settings_line, start_of}
 use Rattle.xl_audit.specs.Laws.{written_with}
 use Rattle.xl_audit.specs.Opening.{core_of, is_unmet, key_in, unmet}
@@ -76,7 +76,7 @@ one_line told stage next text rest plain leads at =
           ∙ ap (told_by (λ a. told_from limits rules (at.left - 1) a (lines_of rest)))
           (taken at.left at.n line (le-ltb most_bytes (length text) short) (lt-ltb 0 at.left (omega (arith, at.few, long)))
           (le-ltb most_bytes (length text) short) (fewer at.n (omega (arith, at.within, long))) stage
-          ∙ ap (answered at.n) leads);
+          ∙ ap (line_step_of at.n) leads);
       few = omega (arith, at.few, long);
       within = omega (arith, at.within, long);
       short = All-tail (λ l. length l.bytes ≤ most_bytes) line (lines_of rest) all;
@@ -112,14 +112,14 @@ entry_leads stage core k e next opened leads stored =
     let w : Written = written_with e (reply_to core e) in
     let right : IsRight core w = record { outcome = leads.outcome; reply = refl } in
     opened.judges (entry_text w) (is_no_key w)
-    ∙ ap (judged core k) (entry_again core w leads.allowed stored.0 stored.1 (counted_of (core_asks core e.event) e.outcome leads.outcome))
+    ∙ ap (judgement core k) (entry_again core w leads.allowed stored.0 stored.1 (counted_of (core_asks core e.event) e.outcome leads.outcome))
     ∙ cond-true (is_right core w) (goes_on (Judging (reply_of core e).core (k + 1))) (wrong (k + 1)) (is_right_of core w right)
 
 told_entries : (told : Told) (stage : Stage) (core : Core) (k : ℕ) (es : List Entry) → IsOpen stage core k → IsLegal Leads core es → All IsStored es
     → IsAt told stage (entries_text core es) → told ≡ closes (yes_line (k + length es)) Good
 told_entries told stage core k [] opened legal stored at =
     let same : k ≡ k + 0 = omega arith in
-    at.same ∙ ap (closing (at.n + 1)) opened.ends ∙ ap (λ (n : ℕ). closes (yes_line n) Good) same
+    at.same ∙ ap (told_at_end (at.n + 1)) opened.ends ∙ ap (λ (n : ℕ). closes (yes_line n) Good) same
 told_entries told stage core k (e ∷ es) opened legal stored at =
     let w : Written = written_with e (reply_to core e) in
     let after : Core = (reply_of core e).core in

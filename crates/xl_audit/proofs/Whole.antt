@@ -16,7 +16,7 @@ use Rattle.xl_audit.specs.declared.judging.BadLine.TheVariants.{Refused}
 use Rattle.xl_audit.specs.declared.judging.Stage.TheVariants.{Heading, Setting, Keying, Judging}
 use Rattle.xl_audit.specs.Limits.{most_lines}
 use Rattle.xl_audit.specs.declared.opening.Opening.{Opening}
-use Rattle.xl_audit.specs.Auditing.{Step, Auditing, goes_on, refuses, answered, set, keyed, opening_step, entry_step, unless_keyless, closing, audit_of, limits, rules}
+use Rattle.xl_audit.specs.Auditing.{Step, Auditing, goes_on, refuses, line_step_of, set, keyed, opening_step, entry_step, unless_keyless, told_at_end, audit_of, limits, rules}
 use Rattle.xl_audit.specs.Opening.{core_of, key_in, opening_in, unmet}
 use Rattle.xl_audit.specs.Texts.{TellKeys, IsJudged, TextIsJudged, YesOfTheText, NoOfTheText}
 use Rattle.xl_audit.specs.Verdicts.{AllRight, FirstWrong, told_behind}
@@ -38,8 +38,8 @@ record AreKeyed (opening : Opening) (ring : Ring) (lines : List Line) (told : To
 -- THE KEYS
 
 keys_end : (left n : ℕ) (opening : Opening) (ring : Ring) (found : Option ℕ) → unmet ring opening.list.members ≡ found
-    → (closing (n + 1) (unless_keyless found)).verdict ≢ IsRefused
-    → AreKeyed opening ring [] (closing (n + 1) (unless_keyless found))
+    → (told_at_end (n + 1) (unless_keyless found)).verdict ≢ IsRefused
+    → AreKeyed opening ring [] (told_at_end (n + 1) (unless_keyless found))
 keys_end left n opening ring (Some member) is good = absurd (good refl)
 keys_end left n opening ring None is good = record {
   keys = [];
@@ -68,7 +68,7 @@ module _ (left n : ℕ) (opening : Opening) (ring : Ring) (line : Line) (lines :
   one_key : (r : Result Ring SchedRefusal) → key_in ring (tokens line.bytes) ≡ r → first (tokens line.bytes) ≡ codes "key"
       → ((more : Ring) → (next (behind (n + 1) (Keying opening more))).verdict ≢ IsRefused
       → AreKeyed opening more lines (next (behind (n + 1) (Keying opening more))))
-      → P (answered n (keyed opening r))
+      → P (line_step_of n (keyed opening r))
   unfolding told_by
   one_key (Err why) read word later good = absurd (good refl)
   one_key (Ok more) read word later good =
@@ -87,7 +87,7 @@ module _ (left n : ℕ) (opening : Opening) (ring : Ring) (line : Line) (lines :
 
   -- the first entry
   first_entry : (found : Option ℕ) → unmet ring opening.list.members ≡ found → bytes_eq (first (tokens line.bytes)) (codes "key") ≡ false
-      → IsTaken left n line → P (answered n (opening_step opening ring found (tokens line.bytes)))
+      → IsTaken left n line → P (line_step_of n (opening_step opening ring found (tokens line.bytes)))
   first_entry (Some member) is word taken = refused _
   first_entry None is word taken = λ good.
       let core : Core = core_of opening ring in
@@ -101,7 +101,7 @@ module _ (left n : ℕ) (opening : Opening) (ring : Ring) (line : Line) (lines :
         left = left;
         n = n;
         says = ap (told_by next) (sym (taken (Judging core 0)
-            ∙ ap (answered n) (cond-false (bytes_eq (first (tokens line.bytes)) (codes "key")) (refuses (Refused (Late (first (tokens line.bytes))))) (entry_step core 0 (tokens line.bytes)) word)));
+            ∙ ap (line_step_of n) (cond-false (bytes_eq (first (tokens line.bytes)) (codes "key")) (refuses (Refused (Late (first (tokens line.bytes))))) (entry_step core 0 (tokens line.bytes)) word)));
       }
 
 keying : (left n : ℕ) (opening : Opening) (ring : Ring) (lines : List Line)
@@ -111,7 +111,7 @@ keying left n opening ring [] = keys_end left n opening ring (unmet ring opening
 keying left n opening ring (line ∷ lines) =
     at_step (P left n opening ring line lines) left n (Keying opening ring) line (refused left n opening ring line lines)
     (λ taken. cond_both (bytes_eq (first (tokens line.bytes)) (codes "key")) (keyed opening (key_in ring (tokens line.bytes)))
-    (opening_step opening ring (unmet ring opening.list.members) (tokens line.bytes)) (λ (s : Step). P left n opening ring line lines (answered n s))
+    (opening_step opening ring (unmet ring opening.list.members) (tokens line.bytes)) (λ (s : Step). P left n opening ring line lines (line_step_of n s))
     (λ word. one_key left n opening ring line lines (key_in ring (tokens line.bytes)) refl
     ((bytes_eq-Decides (first (tokens line.bytes)) (codes "key")).0 word)
     (λ more. keying (left - 1) (n + 1) opening more lines))
@@ -143,7 +143,7 @@ setting left n (line ∷ lines) =
     no : (text : List ℕ) → Q (line_refuses text)
     no text good = absurd (good refl)
 
-    by_opening : (r : Result Opening SchedRefusal) → opening_in (tokens line.bytes) ≡ r → Q (answered n (set r))
+    by_opening : (r : Result Opening SchedRefusal) → opening_in (tokens line.bytes) ≡ r → Q (line_step_of n (set r))
     by_opening (Err why) read good = absurd (good refl)
     by_opening (Ok opening) read good = record {
       setting = line;
@@ -163,7 +163,7 @@ headed left [] = λ good. absurd (good refl)
 headed left (line ∷ lines) =
     at_step R left 0 Heading line no
     (λ _. cond_both (bytes_eq line.bytes (codes "xl-journal 1")) (goes_on Setting) (refuses (Refused (Header (first (tokens line.bytes)))))
-    (λ (s : Step). R (answered 0 s)) heading (λ _. no _))
+    (λ (s : Step). R (line_step_of 0 s)) heading (λ _. no _))
   where
     after : Auditing → Told
     after a = told_from limits rules (left - 1) a lines
@@ -174,7 +174,7 @@ headed left (line ∷ lines) =
     no : (text : List ℕ) → R (line_refuses text)
     no text good = absurd (good refl)
 
-    heading : bytes_eq line.bytes (codes "xl-journal 1") ≡ true → R (answered 0 (goes_on Setting))
+    heading : bytes_eq line.bytes (codes "xl-journal 1") ≡ true → R (line_step_of 0 (goes_on Setting))
     heading word good =
         let behind_it = setting (left - 1) 1 lines good in
         let rest = behind_it.keyed in

@@ -55,13 +55,13 @@ pub data Step : Type 0 where
   refuses : (why : BadLine) → Step
 
 -- an entry is judged
-abbrev pub judged : Core → ℕ → Result Written SchedRefusal → Step
-judged core entries (Err why) = refuses (Refused why)
-judged core entries (Ok w) =
+abbrev pub judgement : Core → ℕ → Result Written SchedRefusal → Step
+judgement core entries (Err why) = refuses (Refused why)
+judgement core entries (Ok w) =
     if is_right core w then goes_on (Judging (reply_of core w.entry).core (entries + 1)) else wrong (entries + 1)
 
 abbrev pub entry_step : Core → ℕ → List (List ℕ) → Step
-entry_step core entries words = judged core entries (entry_in core.node.keys words)
+entry_step core entries words = judgement core entries (entry_in core.node.keys words)
 
 -- the core opens once each listed member has a key
 abbrev pub opening_step : Opening → Ring → Option ℕ → List (List ℕ) → Step
@@ -118,10 +118,10 @@ bounded_step a line =
     else step a.stage line
 
 -- nothing is written of a line that is in order, and the first that isn't ends the text
-abbrev pub answered : ℕ → Step → LineStep Auditing
-answered lines (goes_on stage) = line_goes_on [] (record { lines = lines + 1; stage = stage })
-answered lines (wrong place) = line_finds (no_line place)
-answered lines (refuses why) = line_refuses (bad_line (lines + 1) why)
+abbrev pub line_step_of : ℕ → Step → LineStep Auditing
+line_step_of lines (goes_on stage) = line_goes_on [] (record { lines = lines + 1; stage = stage })
+line_step_of lines (wrong place) = line_finds (no_line place)
+line_step_of lines (refuses why) = line_refuses (bad_line (lines + 1) why)
 
 -- behind the last line: how many entries there were, or why the journal ends too early
 abbrev pub unless_keyless : Option ℕ → Result ℕ BadLine
@@ -135,15 +135,15 @@ ended (Keying opening ring) = unless_keyless (unmet ring opening.list.members)
 ended (Judging core entries) = Ok entries
 
 -- the line where it ends is the one behind the last
-abbrev pub closing : ℕ → Result ℕ BadLine → Told
-closing n (Ok entries) = closes (yes_line entries) verdict.Good
-closing n (Err why) = closes (bad_line n why) verdict.Refused
+abbrev pub told_at_end : ℕ → Result ℕ BadLine → Told
+told_at_end n (Ok entries) = closes (yes_line entries) verdict.Good
+told_at_end n (Err why) = closes (bad_line n why) verdict.Refused
 
 abbrev pub rules : Rules Auditing
 rules = record {
-  step = λ a line _. answered a.lines (bounded_step a line);
+  step = λ a line _. line_step_of a.lines (bounded_step a line);
   overrun = λ a overrun. bad_line (a.lines + 1) (beyond overrun);
-  closing = λ a. closing (a.lines + 1) (ended a.stage);
+  closing = λ a. told_at_end (a.lines + 1) (ended a.stage);
 }
 
 abbrev pub limits : Limits

@@ -4,7 +4,7 @@ use Rattle.std.specs.List.{flat_map, range_with_len}
 use Rattle.hex.specs.Hex.{encode_lower}
 use Rattle.xl_tags.specs.Rings.{Ring, key_of}
 use Rattle.xl_core.specs.Core.{Core, with_queues}
-use Rattle.xl_core.specs.Node.{opened}
+use Rattle.xl_core.specs.Node.{opened_node}
 use Rattle.xl_core.specs.declared.event.CoreEvent.{CoreEvent}
 use Rattle.xl_core.specs.declared.event.CoreEvent.TheVariants as event
 use Rattle.xl_core.specs.declared.settings.Settings.{Settings}
@@ -82,7 +82,7 @@ key_lines ring = flat_map (λ m. key_text m (key_of ring m)) (range_with_len 1 6
 
 -- a core before its first entry
 abbrev pub start_of : Settings → ℕ → ℕ → Core
-start_of settings now kept = with_queues (opened settings now kept)
+start_of settings now kept = with_queues (opened_node settings now kept)
 
 -- what stands before the entries
 abbrev pub head_text : Settings → ℕ → ℕ → List ℕ

@@ -19,7 +19,7 @@ use Rattle.xl_audit.specs.declared.judging.Stage.{Stage}
 use Rattle.xl_audit.specs.declared.judging.Stage.TheVariants.{Heading, Setting, Keying, Judging}
 use Rattle.xl_audit.specs.declared.opening.Opening.{Opening}
 use Rattle.xl_audit.specs.declared.written.Written.{Written}
-use Rattle.xl_audit.specs.Auditing.{Step, refuses, goes_on, heading_step, judged, keyed, set, step}
+use Rattle.xl_audit.specs.Auditing.{Step, refuses, goes_on, heading_step, judgement, keyed, set, step}
 use Rattle.xl_audit.specs.Opening.{core_of, key_in, opening_in, unmet}
 use Rattle.xl_audit.specs.Reading.{entry_in}
 use Rattle.xl_audit.specs.Rights.{IsAsked}
@@ -61,7 +61,7 @@ lead (Judging core entries) line = judging_lead core entries (tokens line)
 
 -- the entry is judged
 abbrev pub judged_at : Stage → Written → Step
-judged_at (Judging core entries) w = judged core entries (Ok w)
+judged_at (Judging core entries) w = judgement core entries (Ok w)
 judged_at other w = goes_on other
 
 abbrev pub judged_lead : Lead → Step

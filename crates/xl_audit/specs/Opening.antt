@@ -6,7 +6,7 @@ use Rattle.xl_ledger.specs.Limits.{greatest_limit, least_limit}
 use Rattle.xl_lists.specs.Lists.{is_on}
 use Rattle.xl_tags.specs.Rings.{Ring, key_of, with_key}
 use Rattle.xl_core.specs.Core.{Core, with_queues}
-use Rattle.xl_core.specs.Node.{opened}
+use Rattle.xl_core.specs.Node.{opened_node}
 use Rattle.xl_core.specs.declared.settings.Settings.{Settings}
 use Rattle.xl_sched.specs.declared.refusal.SchedRefusal.{SchedRefusal}
 use Rattle.xl_sched.specs.declared.refusal.SchedRefusal.TheVariants.{Word as IsNoWord, Number, Twice}
@@ -84,4 +84,4 @@ settings_of opening ring = record {
 
 -- the core before the first entry
 abbrev pub core_of : Opening → Ring → Core
-core_of opening ring = with_queues (opened (settings_of opening ring) opening.now opening.kept)
+core_of opening ring = with_queues (opened_node (settings_of opening ring) opening.now opening.kept)

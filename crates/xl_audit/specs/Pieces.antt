@@ -1,17 +1,17 @@
 -- Drains and handings out, a piece at a time. Source: what the code of this crate relies on.
 use Rattle.std.specs.Prelude.{◌≡◌, ℕ, List, ◌++◌, take}
-use Rattle.xl_core.specs.Core.{Core, given_for, drained}
-use Rattle.xl_core.specs.Queues.{frames_in, joined, without}
+use Rattle.xl_core.specs.Core.{Core, given_for, after_drain}
+use Rattle.xl_core.specs.Queues.{frames_in, stream_of, without}
 use Rattle.xl_core.specs.declared.report.Report.{Report}
 
 -- the bytes that a drain into a room gives
 abbrev pub bytes_given : Core → ℕ → ℕ → List ℕ
-bytes_given core to room = joined (frames_in (given_for core to room))
+bytes_given core to room = stream_of (frames_in (given_for core to room))
 
 -- what is left of a drain is still to come, and these bytes were given so far
 pub record HasDrained (start : Core) (to room : ℕ) (now : Core) (left : ℕ) (given : List ℕ) : Type 0 where
   pub bytes : bytes_given start to room ≡ given ++ bytes_given now to left
-  pub core : drained start to room ≡ drained now to left
+  pub core : after_drain start to room ≡ after_drain now to left
   pub node : now.node ≡ start.node
 
 -- a core once reports were handed out into a room

@@ -11,7 +11,7 @@ use Rattle.xl_core.specs.declared.report.Report.{Report}
 use Rattle.xl_core.specs.declared.taken.Taken.{Taken}
 use Rattle.xl_core.specs.declared.taken.Taken.TheVariants as taken
 use Rattle.xl_core.specs.Answers.{Answer, Refused, Took, Beats, Done, Gave, Handed, Told}
-use Rattle.xl_core.specs.Queues.{joined}
+use Rattle.xl_core.specs.Queues.{stream_of}
 use Rattle.xl_core.specs.Refusals.{code_of}
 use Rattle.xl_audit.specs.Values.{space, values_text}
 
@@ -67,6 +67,6 @@ reply_text (Refused why) = refusal_text why
 reply_text (Took what) = taken_text what
 reply_text (Beats told) = beat_text told
 reply_text Done = codes "ok"
-reply_text (Gave to frames) = bytes_text (joined frames)
+reply_text (Gave to frames) = bytes_text (stream_of frames)
 reply_text (Handed reports) = decimal (length reports) ++ flat_map report_text reports
 reply_text (Told stopped) = told_text stopped

@@ -2,7 +2,7 @@ ghost use Rattle.std.specs.Prelude.{◌≡◌, ◌↔◌, ◌≤◌, IfOk, IsTru
 ghost use Rattle.xl_base.specs.Moments.{greatest_millis};
 ghost use Rattle.xl_ledger.specs.Limits.{greatest_limit, least_limit};
 ghost use Rattle.xl_core.specs.Core.{with_queues};
-ghost use Rattle.xl_core.specs.Node.{opened};
+ghost use Rattle.xl_core.specs.Node.{opened_node};
 ghost use Rattle.xl_core.specs.Rest.{IsKeyed};
 ghost use Rattle.std.specs.String.{string_bytes};
 ghost use Rattle.xl_core.specs.Core.{core_asks};
@@ -54,7 +54,7 @@ impl Auditor {
         requires least { least_limit ≤ settings.limit }
         requires most { settings.limit ≤ greatest_limit }
         requires moment { now ≤ greatest_millis }
-        ensures opened { IfOk result (λ auditor. auditor ≡ with_queues (opened settings now kept)) }
+        ensures opened { IfOk result (λ auditor. auditor ≡ with_queues (opened_node settings now kept)) }
     {
         let core = Box::new(alloc, Core::open(alloc, settings, now, kept)?)?;
         let piece = Box::new(alloc, [0; ROOM])?;

@@ -1,28 +1,62 @@
-// Bytes as lower-case hexadecimal digits, each of which is looked at once.
-ghost use Rattle.std.specs.Prelude.{◌≡◌, ◌*◌, ◌/◌, ◌%◌, ◌≤◌, Ok, length, take, slice_index, IsTrue};
+// Bytes as lower-case hexadecimal digits. No loop ends early and none has a branch, so the compiler takes many bytes at
+// a time.
+ghost use Rattle.std.specs.Prelude.{◌≡◌, ◌*◌, ◌<◌, ◌≤◌, Ok, cond, length, take, true, IsTrue};
 ghost use Rattle.std.specs.List.{list_all};
-ghost use Rattle.hex.specs.Hex.{decode_pairs, encode_lower, lower_digits};
-ghost use Rattle.xl_audit.specs.Digits.{IsByteOf, IsValueOf};
+ghost use Rattle.hex.specs.Hex.{decode_pairs, encode_lower};
+ghost use Rattle.xl_audit.specs.Digits.{IsByteOf, IsDigitsOf, IsValueOf, lower_digit};
 ghost use Rattle.xl_audit.specs.Tokens.{is_lower_digit};
 
-const LOWER_DIGITS: &[u8; 16] = b"0123456789abcdef";
+fn is_lower_digit(byte: u8) -> bool
+    ensures { result ≡ is_lower_digit byte }
+{
+    (b'0' <= byte && byte <= b'9') || (b'a' <= byte && byte <= b'f')
+}
+
+/// 0 for a digit, and 1 for another byte.
+fn fault_at(byte: u8) -> u8
+    ensures { result ≡ cond (is_lower_digit byte) 0 1 }
+{
+    if is_lower_digit(byte) { 0 } else { 1 }
+}
+
+/// Whether all are digits.
+fn are_digits(token: &[u8]) -> bool
+    ensures { result ≡ list_all is_lower_digit token.now }
+{
+    let mut faults = 0;
+    'digits: for i in 0..token.len() {
+        faults = fault_at(token[i]).max(faults);
+    }
+    faults == 0
+}
 
 /// The value of a digit.
-fn value(digit: u8) -> Option<u8>
+fn value(digit: u8) -> u8
     ensures { IsValueOf digit result }
 {
-    match digit {
-        b'0'..=b'9' => Some(digit - b'0'),
-        b'a'..=b'f' => Some(digit - b'a' + 10),
-        _ => None,
+    if digit < b'a' {
+        digit.saturating_sub(b'0')
+    } else {
+        digit - (b'a' - 10)
     }
 }
 
 /// The byte of two digits.
-fn byte_of(high: u8, low: u8) -> Option<u8>
+fn byte_of(high: u8, low: u8) -> u8
     ensures { IsByteOf high low result }
 {
-    Some(value(high)? * 16 + value(low)?)
+    value(high).wrapping_mul(16).wrapping_add(value(low))
+}
+
+/// Puts the bytes of digits into the room for them.
+fn put_bytes(digits: &[u8], room: &mut [u8])
+    requires long { length digits.now ≡ 2 * length room.old }
+    requires digits { list_all is_lower_digit digits.now ≡ true }
+    ensures { decode_pairs 0 digits.now ≡ Ok room.new }
+{
+    'bytes: for i in 0..room.len() {
+        room[i] = byte_of(digits[2 * i], digits[2 * i + 1]);
+    }
 }
 
 /// Puts the bytes of a token's digits into the room for them. False if another byte stands among the digits.
@@ -31,20 +65,38 @@ pub fn decode(token: &[u8], room: &mut [u8]) -> bool
     ensures digits { result ≡ list_all is_lower_digit token.now }
     ensures bytes { IsTrue result → decode_pairs 0 token.now ≡ Ok room.new }
 {
-    'bytes: for i in 0..room.len() {
-        match byte_of(token[2 * i], token[2 * i + 1]) {
-            Some(byte) => room[i] = byte,
-            None => return false,
-        }
+    if !are_digits(token) {
+        return false;
     }
+    put_bytes(token, room);
     true
 }
 
-/// Whether these are the digits of a byte.
-fn are_digits_of(byte: u8, high: u8, low: u8) -> bool
-    ensures { IsTrue result → (high ≡ slice_index lower_digits (byte / 16)) × (low ≡ slice_index lower_digits (byte % 16)) }
+/// The digit of a value.
+fn digit_of(value: u8) -> u8
+    requires { value < 16 }
+    ensures { result ≡ lower_digit value }
 {
-    LOWER_DIGITS[(byte >> 4) as usize] == high && LOWER_DIGITS[(byte & 15) as usize] == low
+    if value < 10 {
+        value + b'0'
+    } else {
+        value + (b'a' - 10)
+    }
+}
+
+/// 0 for the same byte, and 1 for another.
+fn difference(byte: u8, other: u8) -> u8
+    ensures { result ≡ 0 → byte ≡ other }
+{
+    if byte == other { 0 } else { 1 }
+}
+
+/// 0 only for the digits of a byte.
+fn difference_at(byte: u8, high: u8, low: u8) -> u8
+    ensures { result ≡ 0 → IsDigitsOf byte high low }
+{
+    let first = difference(digit_of(byte >> 4), high);
+    difference(digit_of(byte & 15), low).max(first)
 }
 
 /// Whether a text begins with the digits of these bytes.
@@ -55,10 +107,9 @@ pub fn begins_with_digits(text: &[u8], bytes: &[u8]) -> bool
     if bytes.len() > text.len() / 2 {
         return false;
     }
+    let mut differences = 0;
     'bytes: for i in 0..bytes.len() {
-        if !are_digits_of(bytes[i], text[2 * i], text[2 * i + 1]) {
-            return false;
-        }
+        differences = difference_at(bytes[i], text[2 * i], text[2 * i + 1]).max(differences);
     }
-    true
+    differences == 0
 }

@@ -6,6 +6,12 @@
 //!
 //! It stands on xl_core and on xl_store's journals. Its one contract: where each entry is right, the entries are a legal
 //! history of the core, with the replies that are written.
+//!
+//! ```
+//! write_journal(alloc, settings, now, kept, store.close(pass).entries, &mut output)?;
+//! // and later, over the bytes that were written
+//! let verdict = tell::<Audit, _, _>(alloc, &mut input, &mut output)?; // `yes 200`
+//! ```
 #![tactic(auto)]
 
 mod auditor;

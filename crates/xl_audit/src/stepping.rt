@@ -3,7 +3,7 @@ ghost use Rattle.std.specs.Prelude.{◌≡◌, ◌≤◌, ◌++◌, [], length, 
 ghost use Rattle.xl_base.specs.Moments.{greatest_millis};
 ghost use Rattle.xl_tags.specs.Rings.{key_of};
 ghost use Rattle.xl_wire.specs.Lengths.{longest_frame};
-ghost use Rattle.xl_core.specs.Core.{all_frames, drained};
+ghost use Rattle.xl_core.specs.Core.{all_frames, after_drain};
 ghost use Rattle.xl_core.specs.Deeds.{MayHappen, answer_of, event_for};
 ghost use Rattle.xl_core.specs.Queues.{frames_in};
 ghost use Rattle.xl_core.specs.declared.event.CoreEvent.TheVariants.{Drain, Reports};
@@ -77,7 +77,7 @@ fn drain_once(
     requires peer { IsSome (key_of core.old.node.keys member) }
     requires least { longest_frame ≤ part }
     requires most { part ≤ 16480 }
-    ensures core { core.new ≡ drained core.old member part }
+    ensures core { core.new ≡ after_drain core.old member part }
     ensures given { OnOk result (given.new.items ≡ given.old.items ++ bytes_given core.old member part) }
     ensures count { IfOk result (λ count. count ≡ length (bytes_given core.old member part)) }
     ensures nothing { IfOk result (λ count. count ≡ 0 → frames_in (all_frames core.old member) ≡ []) }
@@ -99,7 +99,7 @@ fn drain_all(
 ) -> Result<Vec<u8>, OutOfMemory>
     requires peer { IsSome (key_of core.old.node.keys member) }
     requires room { longest_frame ≤ room }
-    ensures core { OnOk result (core.new ≡ drained core.old member room) }
+    ensures core { OnOk result (core.new ≡ after_drain core.old member room) }
     ensures given { IfOk result (λ given. given.items ≡ bytes_given core.old member room) }
 {
     let mut given = Vec::new(alloc);
@@ -219,56 +219,44 @@ pub fn reply_to<T: ReplyText>(
         core.new answer.new keeper.new.asked) }
     ensures keys { OnOk result (core.new.node.keys ≡ core.old.node.keys) }
 {
-    match event {
+    match *event {
         CoreEvent::Issue { now, seq, id, full } => {
-            let deed = Deed::Issue {
-                now: *now,
-                seq: *seq,
-                id: *id,
-                full: *full,
-            };
+            let deed = Deed::Issue { now, seq, id, full };
             reply_to_deed(alloc, core, &deed, keeper, text, answer)
         }
-        CoreEvent::Frame { now, bytes } => {
-            let deed = Deed::Frame {
-                now: *now,
-                bytes: bytes.as_slice(),
-            };
-            reply_to_deed(alloc, core, &deed, keeper, text, answer)
+        CoreEvent::Frame { now, ref bytes } => {
+            let bytes = bytes.as_slice();
+            reply_to_deed(
+                alloc,
+                core,
+                &Deed::Frame { now, bytes },
+                keeper,
+                text,
+                answer,
+            )
         }
         CoreEvent::Timer { now } => {
-            reply_to_deed(
-                alloc,
-                core,
-                &Deed::Timer { now: *now },
-                keeper,
-                text,
-                answer,
-            )
+            reply_to_deed(alloc, core, &Deed::Timer { now }, keeper, text, answer)
         }
         CoreEvent::Submit { now, tx } => {
-            let deed = Deed::Submit { now: *now, tx: *tx };
-            reply_to_deed(alloc, core, &deed, keeper, text, answer)
+            reply_to_deed(alloc, core, &Deed::Submit { now, tx }, keeper, text, answer)
         }
-        CoreEvent::Relist { now, list } => {
-            let deed = Deed::Relist { now: *now, list };
-            reply_to_deed(alloc, core, &deed, keeper, text, answer)
-        }
-        CoreEvent::Greet { member } => {
+        CoreEvent::Relist { now, ref list } => {
             reply_to_deed(
                 alloc,
                 core,
-                &Deed::Greet { member: *member },
+                &Deed::Relist { now, list },
                 keeper,
                 text,
                 answer,
             )
+        }
+        CoreEvent::Greet { member } => {
+            reply_to_deed(alloc, core, &Deed::Greet { member }, keeper, text, answer)
         }
         CoreEvent::Stop => reply_to_deed(alloc, core, &Deed::Stop, keeper, text, answer),
         CoreEvent::Stopped => reply_to_deed(alloc, core, &Deed::Stopped, keeper, text, answer),
-        CoreEvent::Drain { member, room } => {
-            reply_to_drain(alloc, core, *member, *room, piece, text)
-        }
-        CoreEvent::Reports { room } => reply_to_reports(alloc, core, *room, text),
+        CoreEvent::Drain { member, room } => reply_to_drain(alloc, core, member, room, piece, text),
+        CoreEvent::Reports { room } => reply_to_reports(alloc, core, room, text),
     }
 }

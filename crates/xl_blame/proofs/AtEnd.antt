@@ -1,5 +1,5 @@
 -- Each end of a text says something, and nothing is found before the last line.
-use Rattle.std.proofs.Common.{◌≡◌, ◌<◌, ◌+◌, ◌++◌, ◌==◌, ℕ, Bool, true, List, length, length-append, arith, refl, Result, Ok, Err, Option, Some, None}
+use Rattle.std.proofs.Common.{◌≡◌, ◌<◌, ◌+◌, ◌++◌, ◌==◌, ℕ, true, List, length, length-append, arith, refl, Result, Ok, Err, Option, Some, None}
 use Rattle.std.specs.Prelude.{◌&&◌, codes, decimal}
 use Rattle.std.specs.Str.{bytes_eq}
 use Rattle.std.proofs.lemmas.Bool.{cond_both}
@@ -17,8 +17,7 @@ use Rattle.xl_audit.specs.declared.judging.BadLine.TheVariants.{Refused, Keyless
 use Rattle.xl_shown.specs.Courses.{CourseStep, passes, shows, course_step, end_of, may_end}
 use Rattle.xl_shown.specs.Courses as course
 use Rattle.xl_shown.specs.declared.course.End.{End}
-use Rattle.xl_blame.specs.Blaming.{Blaming, bounded_step, ended_step, ending, journal_step, most_journals, number_of, overrun_of, read_step, rules, too_many, with_end}
-use Rattle.xl_blame.specs.Summary.{summary_of}
+use Rattle.xl_blame.specs.Blaming.{Blaming, bounded_step, ended_step, told_at_end, journal_step, most_journals, number_of, overrun_of, read_step, rules, too_many, with_end}
 use Rattle.xl_blame.specs.Texts.{journal_line, judged_text}
 
 -- NOTHING IS FOUND BEFORE THE LAST LINE
@@ -44,7 +43,7 @@ bounded_finds : (b : Blaming) (o : Option Overrun) (bytes : List ℕ) → FindsN
 bounded_finds b (Some overrun) bytes = tt
 bounded_finds b None bytes = read_finds b bytes
 
-closed_ending : (b : Blaming) (r : Result End BadLine) → (ending b r).closed ≡ true
+closed_ending : (b : Blaming) (r : Result End BadLine) → (told_at_end b r).closed ≡ true
 closed_ending b (Err why) = refl
 closed_ending b (Ok end) = refl
 
@@ -95,7 +94,7 @@ bounded_aloud : (b : Blaming) (o : Option Overrun) (bytes : List ℕ) → Refuse
 bounded_aloud b (Some overrun) bytes = bad_some (b.lines + 1) (beyond overrun)
 bounded_aloud b None bytes = read_aloud b bytes
 
-ending_some : (b : Blaming) (r : Result End BadLine) → 0 < length (ending b r).text
+ending_some : (b : Blaming) (r : Result End BadLine) → 0 < length (told_at_end b r).text
 ending_some b (Err why) = bad_some (b.lines + 1) why
 ending_some b (Ok end) = front_some (journal_line (number_of b) end) _ (journal_some (number_of b) end)
 

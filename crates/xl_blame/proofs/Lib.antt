@@ -1,2 +1,4 @@
 pub mod AtEnd
 pub mod Mixing
+mod Summing
+mod Confessing

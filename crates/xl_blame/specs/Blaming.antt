@@ -7,7 +7,6 @@ use Rattle.xl_lines.specs.declared.limits.Limits.{Limits}
 use Rattle.xl_lines.specs.declared.limits.Overrun.{Overrun}
 use Rattle.xl_lines.specs.declared.limits.Overrun.TheVariants.{LongLine, ManyLines}
 use Rattle.xl_lines.specs.declared.limits.Returns.TheVariants.{Kept}
-use Rattle.xl_lines.specs.declared.machine.Verdict.{Verdict}
 use Rattle.xl_lines.specs.declared.machine.Verdict.TheVariants as verdict
 use Rattle.xl_lines.specs.Rules.{Rules, Step, goes_on, Told, closes}
 use Rattle.xl_lines.specs.Rules as line
@@ -20,15 +19,13 @@ use Rattle.xl_audit.specs.Limits.{most_bytes, most_lines}
 use Rattle.xl_audit.specs.declared.judging.BadLine.{BadLine}
 use Rattle.xl_audit.specs.declared.judging.BadLine.TheVariants as bad
 use Rattle.xl_audit.specs.declared.judging.Stage.TheVariants.{Heading, Setting}
-use Rattle.xl_forks.specs.declared.reported.Reported.{Reported}
-use Rattle.xl_forks.specs.declared.said.Said.{Said}
 use Rattle.xl_shown.specs.Courses.{CourseStep, passes, shows, course_step, end_of, list_in, may_end}
 use Rattle.xl_shown.specs.Courses as course
 use Rattle.xl_shown.specs.declared.course.Course.{Course}
 use Rattle.xl_shown.specs.declared.course.Course.TheVariants.{Goes}
 use Rattle.xl_shown.specs.declared.course.End.{End}
 use Rattle.xl_shown.specs.declared.shown.Shown.{Shown}
-use Rattle.xl_blame.specs.Gathering.{reported_at, words_at}
+use Rattle.xl_blame.specs.Gathering.{Gathered, nothing_gathered, with_entry}
 use Rattle.xl_blame.specs.Summary.{summary_of, verdict_of}
 use Rattle.xl_blame.specs.Texts.{journal_line}
 
@@ -42,12 +39,11 @@ pub record Blaming : Type 0 where
   pub lines : ℕ
   pub course : Course
   pub ended : List End
-  pub said : List Said
-  pub reported : List Reported
+  pub shown : Gathered
 
 -- before the first line
 abbrev pub at_first : Blaming
-at_first = record { lines = 0; course = Goes Heading; ended = []; said = []; reported = [] }
+at_first = record { lines = 0; course = Goes Heading; ended = []; shown = nothing_gathered }
 
 -- the number of the journal that is read
 abbrev pub number_of : Blaming → ℕ
@@ -58,8 +54,7 @@ too_many = bad.Refused (Limit (decimal most_journals))
 
 -- one more line was read, and the journal goes on so
 abbrev pub with_line : Blaming → Course → Blaming
-with_line b course =
-    record { lines = b.lines + 1; course = course; ended = b.ended; said = b.said; reported = b.reported }
+with_line b course = record { lines = b.lines + 1; course = course; ended = b.ended; shown = b.shown }
 
 -- its entry shows this
 abbrev pub with_shown : Blaming → ℕ → Shown → Blaming
@@ -67,25 +62,19 @@ with_shown b entry shown = record {
   lines = b.lines;
   course = b.course;
   ended = b.ended;
-  said = b.said ++ words_at (number_of b) entry shown;
-  reported = b.reported ++ reported_at (number_of b) entry shown.report (list_in b.course);
+  shown = with_entry b.shown (number_of b) entry shown (list_in b.course);
 }
 
 -- a journal has ended, and the header of the next one was read
 abbrev pub with_end : Blaming → End → Blaming
-with_end b end = record {
-  lines = b.lines + 1;
-  course = Goes Setting;
-  ended = b.ended ++ end ∷ [];
-  said = b.said;
-  reported = b.reported;
-}
+with_end b end =
+    record { lines = b.lines + 1; course = Goes Setting; ended = b.ended ++ end ∷ []; shown = b.shown }
 
-abbrev pub refusing : Blaming → BadLine → Step Blaming
-refusing b why = line.refuses (bad_line (b.lines + 1) why)
+abbrev pub refusing_step : Blaming → BadLine → Step Blaming
+refusing_step b why = line.refuses (bad_line (b.lines + 1) why)
 
 abbrev pub ended_step : Blaming → Result End BadLine → Step Blaming
-ended_step b (Err why) = refusing b why
+ended_step b (Err why) = refusing_step b why
 ended_step b (Ok end) =
     if number_of b == most_journals
     then line.refuses (journal_line (number_of b) end ++ bad_line (b.lines + 1) too_many)
@@ -94,7 +83,7 @@ ended_step b (Ok end) =
 abbrev pub journal_step : Blaming → CourseStep → Step Blaming
 journal_step b (passes course) = goes_on [] (with_line b course)
 journal_step b (shows course entry shown) = goes_on [] (with_shown (with_line b course) entry shown)
-journal_step b (course.refuses why) = refusing b why
+journal_step b (course.refuses why) = refusing_step b why
 
 -- a header behind settings begins the next journal
 abbrev pub begins_next : Blaming → List ℕ → Bool
@@ -113,21 +102,21 @@ overrun_of lines bytes =
     else None
 
 abbrev pub bounded_step : Blaming → Option Overrun → List ℕ → Step Blaming
-bounded_step b (Some overrun) bytes = refusing b (beyond overrun)
+bounded_step b (Some overrun) bytes = refusing_step b (beyond overrun)
 bounded_step b None bytes = read_step b bytes
 
 -- behind the last line the journal that is read has ended too
-abbrev pub ending : Blaming → Result End BadLine → Told
-ending b (Err why) = closes (bad_line (b.lines + 1) why) verdict.Refused
-ending b (Ok end) =
+abbrev pub told_at_end : Blaming → Result End BadLine → Told
+told_at_end b (Err why) = closes (bad_line (b.lines + 1) why) verdict.Refused
+told_at_end b (Ok end) =
     let ended = b.ended ++ end ∷ [] in
-    closes (journal_line (number_of b) end ++ summary_of ended b.said b.reported) (verdict_of ended b.said b.reported)
+    closes (journal_line (number_of b) end ++ summary_of ended b.shown) (verdict_of ended b.shown)
 
 abbrev pub rules : Rules Blaming
 rules = record {
   step = λ b bytes _. bounded_step b (overrun_of b.lines bytes) bytes;
   overrun = λ b overrun. bad_line (b.lines + 1) (beyond overrun);
-  closing = λ b. ending b (end_of b.course);
+  closing = λ b. told_at_end b (end_of b.course);
 }
 
 abbrev pub limits : Limits

@@ -14,6 +14,7 @@ use Rattle.xl_shown.specs.declared.course.End.{End}
 use Rattle.xl_shown.specs.declared.course.Judged.{Judged}
 use Rattle.xl_shown.specs.declared.course.Judged.TheVariants.{Yes, No}
 use Rattle.xl_blame.specs.declared.networks.Mixed.{Mixed}
+use Rattle.xl_blame.specs.declared.summary.Tally.{Tally}
 
 -- what the auditor says of a journal
 abbrev pub judged_text : Judged → List ℕ
@@ -52,6 +53,10 @@ abbrev pub twice_line : Equivocation → List ℕ
 twice_line e =
     codes "twice " ++ decimal e.first.seq ++ space ++ decimal e.first.member ++ space ++ said_text e.first ++ space
     ++ said_text e.other ++ newline
+
+-- how many frames are heard, and how many of them their senders gave
+abbrev pub heard_line : Tally → List ℕ
+heard_line tally = codes "heard " ++ decimal tally.heard ++ codes " given " ++ decimal tally.given ++ newline
 
 -- how many journals are wrong, how many pairs have two keys, how many reports differ, and how often a member said two
 -- ledgers

@@ -1,10 +1,13 @@
 // What entries show, gathered as they are read.
 ghost use Rattle.std.specs.Prelude.{◌≡◌, ◌++◌, OnOk, option_copied};
-ghost use Rattle.xl_blame.specs.Gathering.{heard_at, reported_at, said_at, words_at};
+ghost use Rattle.xl_blame.specs.Gathering.{heard_at, noted_at, nothing_gathered, reported_at, said_at, with_entry, words_at};
+ghost use Rattle.xl_blame.specs.States.{gathered_seen};
 
+use std::alloc::Global;
 use xl_base::OutOfMemory;
 use xl_core::Report;
 use xl_forks::{Reported, Said};
+use xl_given::{NotedFrames, push_each};
 use xl_lists::{List, SaidLedger};
 use xl_shown::{Heard, Shown};
 
@@ -44,7 +47,7 @@ fn push_heard(
 }
 
 /// All that it shows, the one that is heard first.
-pub fn push_words(
+fn push_words(
     said: &mut Vec<Said>,
     journal: u32,
     entry: u64,
@@ -57,7 +60,7 @@ pub fn push_words(
 }
 
 /// The report that arises in it, under the list in force then.
-pub fn push_reported(
+fn push_reported(
     reported: &mut Vec<Reported>,
     journal: u32,
     entry: u64,
@@ -80,4 +83,67 @@ pub fn push_reported(
         })?;
     }
     Ok(())
+}
+
+/// The frame that is heard in it.
+fn push_noted(
+    noted: &mut NotedFrames,
+    journal: u32,
+    entry: u64,
+    shown: &Shown,
+) -> Result<(), OutOfMemory>
+    ensures { OnOk result (noted.new ≡ noted.old ++ noted_at journal entry shown.now.frame shown.now.heard) }
+{
+    match &shown.heard {
+        Some(heard) => noted.push(heard.from, journal, entry, shown.frame.as_slice()),
+        None => Ok(()),
+    }
+}
+
+/// What the entries of all journals show.
+#[derive(Drop)]
+pub struct Gathered {
+    pub said: Vec<Said>,
+    pub reported: Vec<Reported>,
+    /// The frames that were heard.
+    pub heard: NotedFrames,
+    /// The frames that drains gave.
+    pub given: NotedFrames,
+}
+
+impl Gathered {
+    /// Before the first entry.
+    pub fn new(alloc: Global) -> Gathered
+        ensures { gathered_seen result ≡ nothing_gathered }
+    {
+        Gathered {
+            said: Vec::new(alloc),
+            reported: Vec::new(alloc),
+            heard: NotedFrames::new(alloc),
+            given: NotedFrames::new(alloc),
+        }
+    }
+
+    /// What an entry of a journal shows, both counted from 1, is added. This list is in force behind it.
+    pub fn push(
+        &mut self,
+        journal: u32,
+        entry: u64,
+        shown: &Shown,
+        list: Option<&List>,
+    ) -> Result<(), OutOfMemory>
+        ensures { OnOk result (gathered_seen self.new
+            ≡ with_entry (gathered_seen self.old) journal entry shown.now (option_copied list.entry)) }
+    {
+        push_words(&mut self.said, journal, entry, shown)?;
+        push_reported(&mut self.reported, journal, entry, &shown.report, list)?;
+        push_noted(&mut self.heard, journal, entry, shown)?;
+        push_each(
+            &mut self.given,
+            shown.me,
+            journal,
+            entry,
+            shown.given.as_slice(),
+        )
+    }
 }

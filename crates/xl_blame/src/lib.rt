@@ -6,6 +6,7 @@
 #![tactic(auto)]
 
 mod command;
+mod confessions;
 mod gathering;
 mod limits;
 mod machine;

@@ -5,7 +5,7 @@ ghost use Rattle.xl_audit.specs.Limits.{most_bytes, most_lines};
 ghost use Rattle.xl_shown.specs.Courses.{entries_in, IsReadyCourse, IsReadyCourse-prop};
 ghost use Rattle.xl_blame.specs.Blaming.{most_journals, too_many as too_many_journals};
 
-use crate::gathering::{push_reported, push_words};
+use crate::gathering::Gathered;
 use crate::limits::MOST_JOURNALS;
 use crate::summary::push_summary;
 use crate::texts::push_journal;
@@ -13,7 +13,6 @@ use std::alloc::Global;
 use std::mem;
 use xl_audit::{BadLine, MOST_BYTES, MOST_LINES, Stage, beyond, push_bad};
 use xl_base::{Bytes, OutOfMemory};
-use xl_forks::{Reported, Said};
 use xl_lines::{Machine, Next, Overrun, Verdict};
 use xl_sched::SchedRefusal;
 use xl_shown::{Came, Course, End, Shown, come, end_of, list_in, may_end};
@@ -24,8 +23,7 @@ pub struct Blamer {
     alloc: Global,
     course: Course,
     ended: Vec<End>,
-    said: Vec<Said>,
-    reported: Vec<Reported>,
+    shown: Gathered,
     lines: u32,
     ghost ready: { IsReadyCourse course } by { IsReadyCourse-prop course },
     ghost counted: { entries_in course ≤ lines },
@@ -35,7 +33,7 @@ pub struct Blamer {
 
 impl Blamer {
     ghost use Rattle.xl_lines.specs.Rules.{closes, step_given};
-    ghost use Rattle.xl_blame.specs.Blaming.{at_first, begins_next, ended_step, ending, journal_step, number_of, overrun_of, read_step, with_shown};
+    ghost use Rattle.xl_blame.specs.Blaming.{at_first, begins_next, ended_step, told_at_end, journal_step, number_of, overrun_of, read_step, with_shown};
     ghost use Rattle.xl_blame.specs.States.{state_of};
     ghost use Rattle.xl_shown.specs.Courses.{course_step, end_of as end_of_course};
 
@@ -47,8 +45,7 @@ impl Blamer {
             alloc,
             course: Course::Goes(Stage::Heading),
             ended: Vec::new(alloc),
-            said: Vec::new(alloc),
-            reported: Vec::new(alloc),
+            shown: Gathered::new(alloc),
             lines: 0,
         }
     }
@@ -119,9 +116,8 @@ impl Blamer {
         ensures { OnOk result (state_of self.new ≡ with_shown (state_of self.old) place shown.now) }
     {
         let journal = self.number();
-        push_words(&mut self.said, journal, place, shown)?;
         let list = list_in(&self.course);
-        push_reported(&mut self.reported, journal, place, &shown.report, list)
+        self.shown.push(journal, place, shown, list)
     }
 
     /// A line of the journal that is read.
@@ -173,12 +169,13 @@ impl Blamer {
     fn conclude(&mut self, end: End, text: &mut String) -> Result<Verdict, OutOfMemory>
         requires empty { string_bytes text.old ≡ [] }
         ensures { IfOk result (λ verdict. closes (string_bytes text.new) verdict
-            ≡ ending (state_of self.old) (Ok end)) }
+            ≡ told_at_end (state_of self.old) (Ok end)) }
     {
         push_journal(text, self.number(), &end)?;
         let mut ended = mem::replace(&mut self.ended, Vec::new(self.alloc));
         ended.push(end)?;
-        push_summary(self.alloc, text, &ended, &self.said, &self.reported)
+        let shown = mem::replace(&mut self.shown, Gathered::new(self.alloc));
+        push_summary(self.alloc, text, &ended, shown)
     }
 }
 

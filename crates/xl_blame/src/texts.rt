@@ -5,9 +5,10 @@ ghost use Rattle.std.specs.String.{string_bytes};
 ghost use Rattle.hex.specs.Hex.{encode_lower};
 ghost use Rattle.xl_audit.specs.Journals.{members_text, other_text};
 ghost use Rattle.xl_forks.specs.Forks.{fork_seen};
-ghost use Rattle.xl_blame.specs.Texts.{blame_line, fork_line, journal_line, judged_text, keys_line, list_text, place_text, report_text, said_text, twice_line};
+ghost use Rattle.xl_blame.specs.Texts.{blame_line, fork_line, heard_line, journal_line, judged_text, keys_line, list_text, place_text, report_text, said_text, twice_line};
 
 use crate::networks::Mixed;
+use crate::summary::Tally;
 use std::alloc::Global;
 use std::fmt::Write;
 use xl_base::{LedgerId, NodeNo, OutOfMemory};
@@ -60,7 +61,7 @@ pub fn push_all_keys(text: &mut String, all: &[Mixed]) -> Result<(), OutOfMemory
     Ok(())
 }
 
-fn push_id(alloc: Global, text: &mut String, id: &LedgerId) -> Result<(), OutOfMemory>
+pub fn push_id(alloc: Global, text: &mut String, id: &LedgerId) -> Result<(), OutOfMemory>
     ensures { OnOk result (string_bytes text.new ≡ string_bytes text.old ++ encode_lower id.now.0) }
 {
     let digits = hex::encode(alloc, id.0.as_slice())?;
@@ -157,7 +158,7 @@ fn push_said(alloc: Global, text: &mut String, said: &Said) -> Result<(), OutOfM
 }
 
 /// A member's words for two ledgers.
-fn push_twice(alloc: Global, text: &mut String, twice: &Equivocation) -> Result<(), OutOfMemory>
+pub fn push_twice(alloc: Global, text: &mut String, twice: &Equivocation) -> Result<(), OutOfMemory>
     ensures { OnOk result (string_bytes text.new ≡ string_bytes text.old ++ twice_line twice.now) }
 {
     let (seq, member) = (twice.first.seq, twice.first.member.get());
@@ -169,16 +170,12 @@ fn push_twice(alloc: Global, text: &mut String, twice: &Equivocation) -> Result<
     Ok(())
 }
 
-pub fn push_all_twice(
-    alloc: Global,
-    text: &mut String,
-    all: &[Equivocation],
-) -> Result<(), OutOfMemory>
-    ensures { OnOk result (string_bytes text.new ≡ string_bytes text.old ++ flat_map twice_line all.now) }
+/// How many frames are heard, and how many of them their senders gave.
+pub fn push_heard(text: &mut String, tally: &Tally) -> Result<(), OutOfMemory>
+    ensures { OnOk result (string_bytes text.new ≡ string_bytes text.old ++ heard_line tally.now) }
 {
-    for twice in all {
-        push_twice(alloc, text, twice)?;
-    }
+    let (heard, given) = (tally.heard, tally.given);
+    writeln!(text, "heard {heard} given {given}")?;
     Ok(())
 }
 

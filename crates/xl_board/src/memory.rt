@@ -2,7 +2,7 @@ ghost use Rattle.std.specs.Prelude.{◌≡◌, ◌≤◌, Some, None, option_map
 ghost use Rattle.xl_base.specs.Counts.{one_more};
 ghost use Rattle.xl_base.specs.Faults.{Rose};
 
-use crate::Board;
+use crate::{Board, Boards, NotOpened};
 use std::alloc::Global;
 use xl_io::Failed;
 
@@ -15,6 +15,13 @@ pub struct MemBoard {
     failing: Vec<u64>,
     calls: u64,
     faults: u64,
+}
+
+/// One more, up to the greatest `u64`.
+fn one_more(count: u64) -> u64
+    ensures { result ≡ one_more count }
+{
+    count.saturating_add(1)
 }
 
 impl MemBoard {
@@ -57,7 +64,7 @@ impl MemBoard {
         ensures faults { self.new.faults ≡ self.old.faults }
         ensures calls { self.new.calls ≡ one_more self.old.calls }
     {
-        self.calls = self.calls.saturating_add(1);
+        self.calls = one_more(self.calls);
         self.failing.contains(&self.calls)
     }
 
@@ -90,6 +97,47 @@ impl Board for MemBoard {
             }
             Err(_) => Err(self.fail()),
         }
+    }
+
+    fn faults(&self) -> u64 {
+        self.faults
+    }
+}
+
+/// Boards in memory, on each of which nothing stands when it is opened. Whether it opens any is said at first.
+#[derive(Drop)]
+pub struct MemBoards {
+    alloc: Global,
+    opens: bool,
+    faults: u64,
+}
+
+impl MemBoards {
+    /// It opens each path, or each call fails.
+    pub fn new(alloc: Global, opens: bool) -> Self
+        ensures faults { ⟦<MemBoards as Boards>⟧.faults result ≡ 0 }
+    {
+        MemBoards {
+            alloc,
+            opens,
+            faults: 0,
+        }
+    }
+}
+
+impl Boards for MemBoards {
+    type D = MemBoard;
+
+    ghost stands = { λ boards path. Some None };
+
+    ghost faults = { λ boards. boards.faults };
+
+    fn open(&mut self, _path: &str) -> Result<MemBoard, NotOpened> {
+        if self.opens {
+            return Ok(MemBoard::new(self.alloc, Vec::new(self.alloc)));
+        }
+        self.faults = one_more(self.faults);
+        Err(NotOpened::Failed)
     }
 
     fn faults(&self) -> u64 {

@@ -17,3 +17,16 @@ fn a_failed_call_leaves_the_former_text(rt: HostRuntime) -> Result<(), Fail> {
     assert_eq!(rt; board.calls(), 3);
     Ok(())
 }
+
+#[test]
+fn a_path_is_opened_or_not(rt: HostRuntime) -> Result<(), Fail> {
+    let mut boards = MemBoards::new(rt.alloc(), true);
+    let mut board = boards.open("xl.status").map_err(|_| "not opened")?;
+    assert!(rt; board.show(b"one") == Ok(()));
+    assert!(rt; board.text() == Some(b"one".as_slice()));
+    assert_eq!(rt; boards.faults(), 0);
+    let mut boards = MemBoards::new(rt.alloc(), false);
+    assert!(rt; boards.open("xl.status").is_err());
+    assert_eq!(rt; boards.faults(), 1);
+    Ok(())
+}

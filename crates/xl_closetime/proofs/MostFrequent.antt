@@ -7,9 +7,10 @@ use Rattle.std.proofs.lemmas.Bool.Decides.{nat_tests}
 use Rattle.std.proofs.lemmas.List.{take_more}
 use Rattle.std.proofs.lemmas.List.Folds.{list_any-append}
 use Rattle.std.proofs.lemmas.List.Elements.{All-push, All-weaker}
-use Rattle.xl_closetime.specs.Choices.{occurrences, needed, rising, choice_of, choice_among}
+use Rattle.xl_closetime.specs.Choices.{occurrences, needed, rising_times, choice_of, choice_among}
 use Rattle.xl_closetime.specs.Frequent.{beats, IsMostFrequent}
 use Rattle.xl_closetime.specs.declared.choice.Frequent.{Frequent}
+use Rattle.xl_closetime.specs.Numbers.{agreed_percent}
 use Rattle.xl_closetime.proofs.Walking.{All-rising, Rises-rising, found_rising, walk_finds, walk_stays}
 
 module _ (times seen : List ℕ) (most other : Frequent) (count : other.count ≡ occurrences times other.time) where
@@ -55,11 +56,11 @@ module _ (times : List ℕ) (percent : ℕ) (most : Frequent) (is : IsMostFreque
   none_chosen few =
       let below : All (λ t. occurrences times t < needed (length times) percent) times =
       All-weaker (λ t. occurrences times t ≤ most.count) (λ t. occurrences times t < needed (length times) percent) (λ t at_most. omega arith) times is.greatest in
-      ap (choice_of times) (walk_stays (occurrences times) (needed (length times) percent) None (rising times)
+      ap (choice_of times) (walk_stays (occurrences times) (needed (length times) percent) None (rising_times times)
       (All-rising (λ t. occurrences times t < needed (length times) percent) times below))
 
   pub last_is_chosen : needed (length times) percent ≤ most.count →
-      choice_among times percent ≡ record { close = most.time; agreed = nat_le (needed (length times) 75) most.count }
+      choice_among times percent ≡ record { close = most.time; agreed = nat_le (needed (length times) agreed_percent) most.count }
   last_is_chosen many =
       let some : 1 ≤ most.count = grind (arith, nat_tests) in
       let counted : most.count ≡ occurrences times most.time = is.counted some in
@@ -69,8 +70,8 @@ module _ (times : List ℕ) (percent : ℕ) (most : Frequent) (is : IsMostFreque
       let last : All (λ t. most.time < t → occurrences times t < occurrences times most.time) times =
       All-weaker (λ t. most.time < t → occurrences times t < most.count) (λ t. most.time < t → occurrences times t < occurrences times most.time)
       (λ t below later. omega (arith, below later)) times is.last in
-      ap (choice_of times) (walk_finds (occurrences times) most.time (needed (length times) percent) None (rising times)
+      ap (choice_of times) (walk_finds (occurrences times) most.time (needed (length times) percent) None (rising_times times)
       (Rises-rising times) (found_rising most.time times (is.found some)) reached
       (All-rising (λ t. occurrences times t ≤ occurrences times most.time) times greatest)
       (All-rising (λ t. most.time < t → occurrences times t < occurrences times most.time) times last))
-      ∙ ap (λ (n : ℕ). record { close = most.time; agreed = nat_le (needed (length times) 75) n }) (sym counted)
+      ∙ ap (λ (n : ℕ). record { close = most.time; agreed = nat_le (needed (length times) agreed_percent) n }) (sym counted)

@@ -5,7 +5,7 @@ use Rattle.std.specs.List.{list_any}
 use Rattle.std.proofs.lemmas.Bool.{cond_both, or_cases}
 use Rattle.std.proofs.lemmas.Bool.Decides.{nat_tests}
 use Rattle.std.proofs.lemmas.List.Elements.{All-nil, All-cons, All-head, All-tail, All-weaker}
-use Rattle.xl_closetime.specs.Choices.{with_time, rising, last_chosen}
+use Rattle.xl_closetime.specs.Choices.{with_time, rising_times, last_chosen}
 
 -- each time is before all that follow
 abbrev pub Rises : List ℕ → Type 0
@@ -38,13 +38,13 @@ Rises-with_time t (u ∷ us) rises =
     (λ _. rises)
     (λ high. (All-with_time (λ v. u < v) t us high rises.0, Rises-with_time t us rises.1))
 
-pub Rises-rising : (ts : List ℕ) → Rises (rising ts)
+pub Rises-rising : (ts : List ℕ) → Rises (rising_times ts)
 Rises-rising [] = tt
-Rises-rising (t ∷ ts) = Rises-with_time t (rising ts) (Rises-rising ts)
+Rises-rising (t ∷ ts) = Rises-with_time t (rising_times ts) (Rises-rising ts)
 
-pub All-rising : (P : ℕ → Type 0) (ts : List ℕ) → All P ts → All P (rising ts)
+pub All-rising : (P : ℕ → Type 0) (ts : List ℕ) → All P ts → All P (rising_times ts)
 All-rising P [] all = all
-All-rising P (t ∷ ts) all = All-with_time P t (rising ts) (All-head P t ts all) (All-rising P ts (All-tail P t ts all))
+All-rising P (t ∷ ts) all = All-with_time P t (rising_times ts) (All-head P t ts all) (All-rising P ts (All-tail P t ts all))
 
 -- a time that is there stays, and the new one is there
 finds_new : (r t : ℕ) (us : List ℕ) → t ≡ r → IsTrue (list_any (λ u. u == r) (with_time t us))
@@ -66,12 +66,12 @@ finds_old r t (u ∷ us) there =
       | inr later ↦ let more : IsTrue (list_any (λ v. v == r) (with_time t us)) = finds_old r t us later in grind (arith, nat_tests)
     ])
 
-pub found_rising : (r : ℕ) (ts : List ℕ) → IsTrue (list_any (λ u. u == r) ts) → IsTrue (list_any (λ u. u == r) (rising ts))
+pub found_rising : (r : ℕ) (ts : List ℕ) → IsTrue (list_any (λ u. u == r) ts) → IsTrue (list_any (λ u. u == r) (rising_times ts))
 found_rising r [] there = there
 found_rising r (t ∷ ts) there =
     elim (or_cases (t == r) (list_any (λ u. u == r) ts) there) [
-      | inl here ↦ finds_new r t (rising ts) (grind (arith, nat_tests))
-      | inr later ↦ finds_old r t (rising ts) (found_rising r ts later)
+      | inl here ↦ finds_new r t (rising_times ts) (grind (arith, nat_tests))
+      | inr later ↦ finds_old r t (rising_times ts) (found_rising r ts later)
     ]
 
 module _ (number : ℕ → ℕ) where

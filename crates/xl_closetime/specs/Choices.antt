@@ -18,9 +18,9 @@ with_time t [] = t ∷ []
 with_time t (u ∷ us) = if nat_lt t u then t ∷ u ∷ us else if t == u then u ∷ us else u ∷ with_time t us
 
 -- the different times in rising order
-abbrev pub rising : List ℕ → List ℕ
-rising [] = []
-rising (t ∷ ts) = with_time t (rising ts)
+abbrev pub rising_times : List ℕ → List ℕ
+rising_times [] = []
+rising_times (t ∷ ts) = with_time t (rising_times ts)
 
 -- A walk over times: one that occurs at least as often as the bound is chosen, and how often it occurs is the new
 -- bound. The last one chosen, if any is.
@@ -32,8 +32,8 @@ last_chosen number bound chosen (t ∷ ts) =
     else last_chosen number bound chosen ts
 
 -- the rounded times of the members' positions, and our own if we propose
-abbrev pub counted : List ℕ → ℕ → Bool → ℕ → List ℕ
-counted times own proposing r = map (λ t. round_close t r) times ++ (if proposing then round_close own r ∷ [] else [])
+abbrev pub counted_times : List ℕ → ℕ → Bool → ℕ → List ℕ
+counted_times times own proposing r = map (λ t. round_close t r) times ++ (if proposing then round_close own r ∷ [] else [])
 
 -- a chosen time is agreed on if enough of the times are it; if none is chosen it is 0, and not agreed on
 abbrev pub choice_of : List ℕ → Option ℕ → Choice
@@ -43,9 +43,9 @@ choice_of times (Some t) = record { close = t; agreed = nat_le (needed (length t
 -- the choice among counted times, of which this percent is needed
 abbrev pub choice_among : List ℕ → ℕ → Choice
 choice_among times percent =
-    choice_of times (last_chosen (occurrences times) (needed (length times) percent) None (rising times))
+    choice_of times (last_chosen (occurrences times) (needed (length times) percent) None (rising_times times))
 
 -- with no positions it is our own time, and agreed on
 abbrev pub choose_close : List ℕ → ℕ → Bool → ℕ → ℕ → Choice
 choose_close [] own proposing percent r = record { close = round_close own r; agreed = true }
-choose_close (t ∷ ts) own proposing percent r = choice_among (counted (t ∷ ts) own proposing r) percent
+choose_close (t ∷ ts) own proposing percent r = choice_among (counted_times (t ∷ ts) own proposing r) percent

@@ -16,7 +16,7 @@ use Rattle.xl_core.specs.Answers.{Answer, handed_in}
 use Rattle.xl_core.specs.Core.{Core, core_happens, with_queues}
 use Rattle.xl_core.specs.CoreLives.{CoreHappening, core_after, arisen_over, handed_over, ReportsAreHandedOut, NoneIsLost}
 use Rattle.xl_core.specs.Node as nodes
-use Rattle.xl_core.specs.Node.{Node, Event, Reply, Save, happens, timer_reply, issued_unless_off, refusing, at_moment, own_validation, opened}
+use Rattle.xl_core.specs.Node.{Node, Event, Reply, Save, happens, timer_reply, issued_unless_off, refusing_reply, at_moment, own_validation, opened_node}
 use Rattle.xl_core.specs.Issuing.Save.{Kept, Failed}
 use Rattle.xl_core.specs.Queues.{with_report, without}
 use Rattle.xl_core.proofs.Beside.{node_or_other}
@@ -33,7 +33,7 @@ unless_hands n (Some failed) save v = refl
 pub happens_hands : (n : Node) (e : Event) (save : Save) → handed_in (happens n e save).answer ≡ []
 happens_hands n (nodes.Issue now seq id full) save =
     let m : Node = at_moment now n in
-    cond_both (nat_lt m.kept seq) (issued_unless_off m m.failed_save save (own_validation m seq id full)) (refusing m (NotAfter m.kept)) (λ r. handed_in r.answer ≡ [])
+    cond_both (nat_lt m.kept seq) (issued_unless_off m m.failed_save save (own_validation m seq id full)) (refusing_reply m (NotAfter m.kept)) (λ r. handed_in r.answer ≡ [])
     (λ _. unless_hands m m.failed_save save (own_validation m seq id full)) (λ _. refl)
 happens_hands n (nodes.Frame now bytes) save = (heard_keeps n now bytes).handed
 happens_hands n (nodes.Timer now) save = timing_by (λ t. handed_in (timer_reply t save).answer ≡ []) (at_moment now n) (λ r told said. refl) (λ ledgers r said h place moved_on _. refl)
@@ -95,7 +95,7 @@ life_accounts core (h ∷ hs) =
 
 pub all_handed : ReportsAreHandedOut
 all_handed settings now kept life =
-    let core : Core = with_queues (opened settings now kept) in
+    let core : Core = with_queues (opened_node settings now kept) in
     life_accounts core life [] [] (record { gone = []; in_order = refl; handed_out = refl; counted = omega arith })
 
 -- WHERE NONE IS LOST
@@ -166,6 +166,6 @@ life_whole core (h ∷ hs) before out few was =
 
 pub none_lost : NoneIsLost
 none_lost settings now kept life few =
-    let core : Core = with_queues (opened settings now kept) in
+    let core : Core = with_queues (opened_node settings now kept) in
     let whole = life_whole core life [] [] few (record { all = refl; none = refl }) in
     (whole.all, whole.none)

@@ -9,7 +9,7 @@ use Rattle.xl_validations.specs.declared.row.Row.{Row}
 use Rattle.xl_validations.specs.Rows.{row_of, with_validation, at_member, is_full_of, count_full}
 use Rattle.xl_core.specs.declared.last.LastReport.{LastReport}
 use Rattle.xl_core.specs.declared.report.Report.{Report}
-use Rattle.xl_core.specs.Lasts.{is_news, later}
+use Rattle.xl_core.specs.Lasts.{is_news, last_after}
 use Rattle.xl_core.specs.Node.{arises_in, arisen_in, report_of}
 use Rattle.xl_core.specs.Node.{report_if}
 use Rattle.xl_core.specs.Rest.{NothingArises}
@@ -62,10 +62,10 @@ nothing_arisen quorum rows last rest vs = ap (option_map report_of) (find_none (
 -- ONCE WHAT ARISES IN ROWS IS REPORTED
 
 -- nothing is left
-pub rest_reported : (quorum : ℕ) (rows : List Row) (last : LastReport) → length rows < 2 * quorum → NothingArises quorum rows (later last (arisen_in quorum rows last))
+pub rest_reported : (quorum : ℕ) (rows : List Row) (last : LastReport) → length rows < 2 * quorum → NothingArises quorum rows (last_after last (arisen_in quorum rows last))
 rest_reported quorum rows last few = by (find (arises_in quorum rows last) (currents rows)) refl
   where
-    by : (o : Option Validation) → find (arises_in quorum rows last) (currents rows) ≡ o → NothingArises quorum rows (later last (option_map report_of o))
+    by : (o : Option Validation) → find (arises_in quorum rows last) (currents rows) ≡ o → NothingArises quorum rows (last_after last (option_map report_of o))
     by None none seq id enough =
         elim (cases_Bool (is_news last seq id)) [
           | inl news ↦

@@ -13,14 +13,14 @@ use Rattle.xl_tags.specs.Macs.{mac}
 use Rattle.xl_tags.specs.Rings.{Ring, key_of, no_keys}
 use Rattle.xl_tags.specs.Sealing.{before_tag, sealed, with_tag}
 use Rattle.xl_tags.proofs.RingLaws.{key_of-no_keys}
-use Rattle.xl_core.specs.Core.{Core, all_frames, drained, given_for, greeted_frames}
+use Rattle.xl_core.specs.Core.{Core, all_frames, after_drain, given_for, greeted_frames}
 use Rattle.xl_core.specs.Draining.{node_for}
 use Rattle.xl_core.specs.Greetings.{further_at, greeting_at, greeting_frames, yet_to_hand}
-use Rattle.xl_core.specs.Items.{body_in, frame_of, framed, frames_for, header_body_at}
+use Rattle.xl_core.specs.Items.{body_in, frame_of, frame_for, frames_for, header_body_at}
 use Rattle.xl_core.specs.Node.{Node}
-use Rattle.xl_core.specs.Queues.{after_taking, at_number, fitting, frames_in, joined, lost_more, waiting_at}
+use Rattle.xl_core.specs.Queues.{after_taking, at_number, count_fitting, frames_in, stream_of, lost_more, waiting_at}
 use Rattle.xl_core.specs.Replies.{Drains, DrainsBlank, core_for}
-use Rattle.xl_core.specs.Sending.{blank_frame, blanked, has_spelling, keys_for, sealed_bytes}
+use Rattle.xl_core.specs.Sending.{blank_frame, without_tag, has_spelling, keys_for, sealed_bytes}
 use Rattle.xl_core.specs.declared.the_core.greeting.Greeting.{Greeting}
 use Rattle.xl_core.specs.declared.item.Item.{Item}
 use Rattle.xl_core.specs.declared.item.Item.TheVariants.{Validation as ValidationItem, Tx, TxSet, Proposal, Header}
@@ -45,7 +45,7 @@ before_last : (front last : List ℕ) → length last ≡ 32 → before_tag (fro
 before_last front last long = take_at front last (length (front ++ last) - 32) (omega (arith, length-append front last))
 
 -- one with another tag is blanked to that with zeros
-pub blanked_tag : (f : RawFrame) (tag : List ℕ) → length tag ≡ 32 → blanked (raw_bytes (with_tag f tag)) ≡ raw_bytes (with_tag f (replicate 32 0))
+pub blanked_tag : (f : RawFrame) (tag : List ℕ) → length tag ≡ 32 → without_tag (raw_bytes (with_tag f tag)) ≡ raw_bytes (with_tag f (replicate 32 0))
 blanked_tag f tag long =
     ap (λ (x : List ℕ). before_tag x ++ replicate 32 0) (sym (tag_behind f tag)) ∙ ap (λ (x : List ℕ). x ++ replicate 32 0) (before_last (raw_bytes (with_tag f [])) tag long) ∙ tag_behind f (replicate 32 0)
 
@@ -54,7 +54,7 @@ abbrev pub IsBlanked : Option (List ℕ) → Option (List ℕ) → Type 0
 IsBlanked None None = Unit {0}
 IsBlanked None (Some g) = ⊥
 IsBlanked (Some f) None = ⊥
-IsBlanked (Some f) (Some g) = (g ≡ blanked f) × (length g ≡ length f)
+IsBlanked (Some f) (Some g) = (g ≡ without_tag f) × (length g ≡ length f)
 
 blank_body : (ring : Ring) (me to : ℕ) (body : Body) → has_spelling me to body ≡ true → IsBlanked (Some (sealed_bytes ring me to body)) (Some (sealed_bytes (keys_for Blank ring) me to body))
 blank_body ring me to body spelled =
@@ -65,7 +65,7 @@ blank_body ring me to body spelled =
       ap length is ∙ length-raw_bytes f refl ∙ sym (length-raw_bytes (sealed ring f) s.tag),
     )
 
-blank_framed : (n : Node) (to : ℕ) (body : Body) → IsBlanked (framed n to body) (framed (node_for Blank n) to body)
+blank_framed : (n : Node) (to : ℕ) (body : Body) → IsBlanked (frame_for n to body) (frame_for (node_for Blank n) to body)
 blank_framed n to body = by (has_spelling n.me to body) refl
   where
     by : (b : Bool) → has_spelling n.me to body ≡ b →
@@ -73,7 +73,7 @@ blank_framed n to body = by (has_spelling n.me to body) refl
     by true is = blank_body n.keys n.me to body is
     by false is = tt
 
-blank_said : (n : Node) (to : ℕ) (o : Option Body) → IsBlanked (option_and_then (framed n to) o) (option_and_then (framed (node_for Blank n) to) o)
+blank_said : (n : Node) (to : ℕ) (o : Option Body) → IsBlanked (option_and_then (frame_for n to) o) (option_and_then (frame_for (node_for Blank n) to) o)
 blank_said n to None = tt
 blank_said n to (Some body) = blank_framed n to body
 
@@ -108,11 +108,11 @@ blank_append (o ∷ os) (p ∷ ps) qs rs a b = (a.0, blank_append os ps qs rs a.
 blank_greeting : (n : Node) (to : ℕ) (o : Option Greeting) → AreBlanked (greeting_frames n o to) (greeting_frames (node_for Blank n) o to)
 blank_greeting n to None = tt
 blank_greeting n to (Some g) =
-    blank_map (λ ledger. framed n to (header_body_at n ledger)) (λ ledger. framed (node_for Blank n) to (header_body_at n ledger)) (λ ledger. blank_framed n to (header_body_at n ledger)) (yet_to_hand n.ledgers.headers g)
+    blank_map (λ ledger. frame_for n to (header_body_at n ledger)) (λ ledger. frame_for (node_for Blank n) to (header_body_at n ledger)) (λ ledger. blank_framed n to (header_body_at n ledger)) (yet_to_hand n.ledgers.headers g)
 
 -- WHAT A DRAIN COUNTS
 
-blank_fitting : (os ps : Frames) (room : ℕ) → AreBlanked os ps → fitting os room ≡ fitting ps room
+blank_fitting : (os ps : Frames) (room : ℕ) → AreBlanked os ps → count_fitting os room ≡ count_fitting ps room
 blank_fitting [] [] room a = refl
 blank_fitting [] (p ∷ ps) room a = absurd a
 blank_fitting (o ∷ os) [] room a = absurd a
@@ -120,7 +120,7 @@ blank_fitting (None ∷ os) (None ∷ ps) room a = ap suc (blank_fitting os ps r
 blank_fitting (None ∷ os) (Some g ∷ ps) room a = absurd a.0
 blank_fitting (Some f ∷ os) (None ∷ ps) room a = absurd a.0
 blank_fitting (Some f ∷ os) (Some g ∷ ps) room a =
-    ap (λ (k : ℕ). if nat_le k room then suc (fitting os (room - k)) else 0) (sym a.0.1)
+    ap (λ (k : ℕ). if nat_le k room then suc (count_fitting os (room - k)) else 0) (sym a.0.1)
     ∙ ap (λ (k : ℕ). if nat_le (length g) room then suc k else 0) (blank_fitting os ps (room - length g) a.1)
 
 blank_length : (os ps : Frames) → AreBlanked os ps → length os ≡ length ps
@@ -152,7 +152,7 @@ blank_nones (None ∷ os) (Some g ∷ ps) a = absurd a.0
 blank_nones (Some f ∷ os) (None ∷ ps) a = absurd a.0
 blank_nones (Some f ∷ os) (Some g ∷ ps) a = count_by-cons is_none (Some f) os ∙ ap (λ (n : ℕ). 0 + n) (blank_nones os ps a.1) ∙ sym (count_by-cons is_none (Some g) ps)
 
-blank_frames_in : (os ps : Frames) → AreBlanked os ps → frames_in ps ≡ map blanked (frames_in os)
+blank_frames_in : (os ps : Frames) → AreBlanked os ps → frames_in ps ≡ map without_tag (frames_in os)
 blank_frames_in [] [] a = refl
 blank_frames_in [] (p ∷ ps) a = absurd a
 blank_frames_in (o ∷ os) [] a = absurd a
@@ -160,7 +160,7 @@ blank_frames_in (None ∷ os) (None ∷ ps) a = blank_frames_in os ps a.1
 blank_frames_in (None ∷ os) (Some g ∷ ps) a = absurd a.0
 blank_frames_in (Some f ∷ os) (None ∷ ps) a = absurd a.0
 blank_frames_in (Some f ∷ os) (Some g ∷ ps) a =
-    ap (λ (x : List ℕ). x ∷ frames_in ps) a.0.0 ∙ ap (λ (xs : List (List ℕ)). blanked f ∷ xs) (blank_frames_in os ps a.1)
+    ap (λ (x : List ℕ). x ∷ frames_in ps) a.0.0 ∙ ap (λ (xs : List (List ℕ)). without_tag f ∷ xs) (blank_frames_in os ps a.1)
 
 -- A DRAIN
 
@@ -179,23 +179,23 @@ module _ (core : Core) (to room : ℕ) where
   given_alike : AreBlanked (given_for core to room) (given_for (core_for Blank core) to room)
   given_alike =
       subst (λ (n : ℕ). AreBlanked (given_for core to room) (take n (all_frames (core_for Blank core) to))) (blank_fitting (all_frames core to) (all_frames (core_for Blank core) to) room all_alike)
-      (blank_take (fitting (all_frames core to) room) (all_frames core to) (all_frames (core_for Blank core) to) all_alike)
+      (blank_take (count_fitting (all_frames core to) room) (all_frames core to) (all_frames (core_for Blank core) to) all_alike)
 
   -- it gives the same frames, blank
-  pub given_blank : frames_in (given_for (core_for Blank core) to room) ≡ map blanked (frames_in (given_for core to room))
+  pub given_blank : frames_in (given_for (core_for Blank core) to room) ≡ map without_tag (frames_in (given_for core to room))
   given_blank = blank_frames_in (given_for core to room) (given_for (core_for Blank core) to room) given_alike
 
   pub none_blank : (frames_in (all_frames (core_for Blank core) to) ≡ []) ↔ (frames_in (all_frames core to) ≡ [])
   none_blank =
       let is = blank_frames_in (all_frames core to) (all_frames (core_for Blank core) to) all_alike in
-      (λ none. unmapped (frames_in (all_frames core to)) (sym is ∙ none), λ none. is ∙ ap (map blanked) none)
+      (λ none. unmapped (frames_in (all_frames core to)) (sym is ∙ none), λ none. is ∙ ap (map without_tag) none)
     where
-      unmapped : (fs : List (List ℕ)) → map blanked fs ≡ [] → fs ≡ []
+      unmapped : (fs : List (List ℕ)) → map without_tag fs ≡ [] → fs ≡ []
       unmapped [] e = refl
       unmapped (f ∷ fs) e = cc
 
   -- and takes as many items and headers
-  handed_alike : further_at core.greetings to (fitting (greeted_frames (core_for Blank core) to) room) ≡ further_at core.greetings to (fitting (greeted_frames core to) room)
+  handed_alike : further_at core.greetings to (count_fitting (greeted_frames (core_for Blank core) to) room) ≡ further_at core.greetings to (count_fitting (greeted_frames core to) room)
   handed_alike = ap (further_at core.greetings to) (sym (blank_fitting (greeted_frames core to) (greeted_frames (core_for Blank core) to) room greeted_alike))
 
   abbrev behind : Core → Frames
@@ -221,11 +221,11 @@ with_both core greetings waiting = record core { greetings = greetings; waiting 
 pub drains_blank : (before after : Core) (member written : ℕ) (old new : List ℕ) → Drains (core_for Blank before) member (core_for Blank after) written old new → after.node ≡ before.node → DrainsBlank before member after written old new
 drains_blank before after member written old new step still =
     let room : ℕ = length old in
-    let blank : Core = drained (core_for Blank before) member room in record {
+    let blank : Core = after_drain (core_for Blank before) member room in record {
       core = ap (λ (n : Node). record after { node = n }) still
           ∙ ap (λ (c : Core). record c { node = before.node }) step.core
           ∙ ap (λ (gs : List (Option Greeting)). with_both before gs blank.waiting) (handed_alike before member room)
-          ∙ ap (λ (ws : List (Backlog Item)). with_both before (further_at before.greetings member (fitting (greeted_frames before member) room)) ws) (taken_alike before member room);
-      count = step.count ∙ ap (λ (fs : List (List ℕ)). length (joined fs)) (given_blank before member room);
-      room = step.room ∙ ap (λ (fs : List (List ℕ)). joined fs ++ drop written old) (given_blank before member room);
+          ∙ ap (λ (ws : List (Backlog Item)). with_both before (further_at before.greetings member (count_fitting (greeted_frames before member) room)) ws) (taken_alike before member room);
+      count = step.count ∙ ap (λ (fs : List (List ℕ)). length (stream_of fs)) (given_blank before member room);
+      room = step.room ∙ ap (λ (fs : List (List ℕ)). stream_of fs ++ drop written old) (given_blank before member room);
     }

@@ -12,8 +12,8 @@ use Rattle.xl_base.specs.Refusals.{refused_if, first_of, unless_refused}
 use Rattle.xl_ledger.specs.Registries.{Ledgers, with_header, add_refusal, parent_seq}
 use Rattle.xl_validations.proofs.Naming.{found}
 use Rattle.xl_validations.proofs.Knowing.{place_added}
-use Rattle.xl_core.specs.Building.{Knowing, knowing, knowing_at}
-use Rattle.xl_core.specs.Node.{Node, built}
+use Rattle.xl_core.specs.Building.{Knowing, knowing_of, knowing_at}
+use Rattle.xl_core.specs.Node.{Node, next_header}
 use Rattle.xl_core.specs.TimerParts.{IsKnown}
 
 -- a header follows a known ledger
@@ -46,19 +46,19 @@ some_by : (r : Ledgers) (h : Header) (b : Bool) (place : ℕ) → Ok place ≡ u
 some_by r h true place e = cc
 some_by r h false place e = ap (λ (n : ℕ). let k : Knowing = record { ledgers = with_header r h; place = n } in Some k) (sym (place_added None (length r.headers) place e))
 
-pub no_room : (r : Ledgers) (previous : ℕ) (h : Header) (why : AddRefusal) → Follows r previous h → place_of r.headers (header_id h) ≡ None → Err why ≡ unless_refused (add_refusal r h) (length r.headers) → knowing r h ≡ None
+pub no_room : (r : Ledgers) (previous : ℕ) (h : Header) (why : AddRefusal) → Follows r previous h → place_of r.headers (header_id h) ≡ None → Err why ≡ unless_refused (add_refusal r h) (length r.headers) → knowing_of r h ≡ None
 no_room r previous h why f fresh e =
     ap (knowing_at r h) fresh ∙ none_by r (nat_le r.limit (length r.headers)) why (record { ledgers = with_header r h; place = length r.headers })
     (e ∙ ap (λ (o : Option AddRefusal). unless_refused o (length r.headers)) (refusal_is r previous h f fresh))
 
 pub added : (r new : Ledgers) (previous : ℕ) (h : Header) (place : ℕ) → Follows r previous h → place_of r.headers (header_id h) ≡ None → Ok place ≡ unless_refused (add_refusal r h) (length r.headers) → new ≡ with_header r h →
-    knowing r h ≡ (let k : Knowing = record { ledgers = new; place = place } in Some k)
+    knowing_of r h ≡ (let k : Knowing = record { ledgers = new; place = place } in Some k)
 added r new previous h place f fresh e is =
     ap (knowing_at r h) fresh ∙ some_by r h (nat_le r.limit (length r.headers)) place (e ∙ ap (λ (o : Option AddRefusal). unless_refused o (length r.headers)) (refusal_is r previous h f fresh))
     ∙ ap (λ (l : Ledgers). let k : Knowing = record { ledgers = l; place = place } in Some k) (sym is)
 
 -- a built header follows the round's ledger
-pub follows_by : (n m : Node) (h : Header) → n ≡ m → AreLedgers n.ledgers.headers → n.round.setting.previous < length n.ledgers.headers → h ≡ built m → Follows m.ledgers m.round.setting.previous h
+pub follows_by : (n m : Node) (h : Header) → n ≡ m → AreLedgers n.ledgers.headers → n.round.setting.previous < length n.ledgers.headers → h ≡ next_header m → Follows m.ledgers m.round.setting.previous h
 follows_by n m h same are within is = record {
   are = subst (λ (x : Node). AreLedgers x.ledgers.headers) same are;
   known = subst (λ (x : Node). x.round.setting.previous < length x.ledgers.headers) same within;

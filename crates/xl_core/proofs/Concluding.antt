@@ -16,9 +16,9 @@ use Rattle.xl_core.specs.declared.timer_part.Built.{Built}
 use Rattle.xl_core.specs.declared.timer_part.TimerPart.TheVariants as timer_part
 use Rattle.xl_core.specs.Answers.{Beats, Done}
 use Rattle.xl_core.specs.Building.{said_items}
-use Rattle.xl_core.specs.Core.{Core, stepped}
+use Rattle.xl_core.specs.Core.{Core, after_reply}
 use Rattle.xl_core.specs.Keeping.{IsAsked}
-use Rattle.xl_core.specs.Node.{Node, Reply, Save, TimerOutcome, Submit, Quiet, timer_reply, timer_outcome, asks_of, happens, replying, refusing}
+use Rattle.xl_core.specs.Node.{Node, Reply, Save, TimerOutcome, Submit, Quiet, timer_reply, timer_outcome, asks_of, happens, reply_with, refusing_reply}
 use Rattle.xl_core.specs.Issuing.Save.{Kept}
 use Rattle.xl_core.specs.Queues.{with_items}
 use Rattle.xl_core.specs.Replies.{Answers}
@@ -29,9 +29,9 @@ use Rattle.xl_core.specs.TimerParts.{outcome_by, IsQuiet, CountsBeatFault}
 -- NOTHING WAS BUILT
 
 pub quiet_step : (core : Core) (m n : Node) (told : TimerAnswer) (said : Option Said) (waiting : List (Backlog Item)) (save : Save) → Quiet n told said ≡ timer_outcome m → waiting ≡ with_items core.waiting (said_items said) →
-    Answers (stepped core (timer_reply (timer_outcome m) save)) (record core { node = n; waiting = waiting }) (Beats told)
+    Answers (after_reply core (timer_reply (timer_outcome m) save)) (record core { node = n; waiting = waiting }) (Beats told)
 quiet_step core m n told said waiting save is pushed =
-    subst (λ (t : TimerOutcome). Answers (stepped core (timer_reply t save)) (record core { node = n; waiting = waiting }) (Beats told)) is
+    subst (λ (t : TimerOutcome). Answers (after_reply core (timer_reply t save)) (record core { node = n; waiting = waiting }) (Beats told)) is
     (record { core = ap (λ (ws : List (Backlog Item)). let c : Core = record core { node = n; waiting = ws } in c) pushed; answer = refl })
 
 same_held : (kept : Bool) (o : Option Held) → o ≡ option_map (λ held. after_save held None kept) o
@@ -60,19 +60,19 @@ quiet_fault (BuiltBeat s i m how) n quiet = absurd quiet
 
 -- so the timer's step
 pub built_step : (core : Core) (m n : Node) (b : Built) (told : TimerAnswer) (after : Core) (save : Save) → outcome_by (timer_part.Built b) n ≡ timer_outcome m →
-    Answers (stepped (record core { node = n }) (timer_reply (outcome_by (timer_part.Built b) n) save)) after (Beats told) → Answers (stepped core (timer_reply (timer_outcome m) save)) after (Beats told)
-built_step core m n b told after save is done = subst (λ (t : TimerOutcome). Answers (stepped core (timer_reply t save)) after (Beats told)) is done
+    Answers (after_reply (record core { node = n }) (timer_reply (outcome_by (timer_part.Built b) n) save)) after (Beats told) → Answers (after_reply core (timer_reply (timer_outcome m) save)) after (Beats told)
+built_step core m n b told after save is done = subst (λ (t : TimerOutcome). Answers (after_reply core (timer_reply t save)) after (Beats told)) is done
 
 -- A TRANSACTION WAS HANDED IN
 
-pub submitted_covered : (held : Held) (core : Core) (now : ℕ) (tx : TxId) (n : Node) (waiting : List (Backlog Item)) → replying n Done (TxItem tx ∷ []) ≡ happens core.node (Submit now tx) Kept →
+pub submitted_covered : (held : Held) (core : Core) (now : ℕ) (tx : TxId) (n : Node) (waiting : List (Backlog Item)) → reply_with n Done (TxItem tx ∷ []) ≡ happens core.node (Submit now tx) Kept →
     waiting ≡ pushed_to_all 64 core.waiting (TxItem tx) → IsCovered held core → IsCovered held (record core { node = n; waiting = waiting })
 submitted_covered held core now tx n waiting is pushed was =
     subst (λ (ws : List (Backlog Item)). IsCovered held (record core { node = n; waiting = ws })) (sym pushed)
-    (subst (λ (r : Reply). IsCovered held (stepped core r).core) (sym is) (submit_covered held core now tx Kept was))
+    (subst (λ (r : Reply). IsCovered held (after_reply core r).core) (sym is) (submit_covered held core now tx Kept was))
 
-pub refused_covered : (held : Held) (core : Core) (now : ℕ) (tx : TxId) (n : Node) (why : Refusal) → refusing n why ≡ happens core.node (Submit now tx) Kept → IsCovered held core → IsCovered held (record core { node = n })
-refused_covered held core now tx n why is was = subst (λ (r : Reply). IsCovered held (stepped core r).core) (sym is) (submit_covered held core now tx Kept was)
+pub refused_covered : (held : Held) (core : Core) (now : ℕ) (tx : TxId) (n : Node) (why : Refusal) → refusing_reply n why ≡ happens core.node (Submit now tx) Kept → IsCovered held core → IsCovered held (record core { node = n })
+refused_covered held core now tx n why is was = subst (λ (r : Reply). IsCovered held (after_reply core r).core) (sym is) (submit_covered held core now tx Kept was)
 
 pub built_asks : {K : Type 0} (held_by : K → Option Held) (saves_of : K → Option (List ℕ)) (faults_of : K → ℕ) (gives : K → ℕ → Bool → K → Type 0) (kept : Bool) (old new : K) (m n : Node) (b : Built) →
     outcome_by (timer_part.Built b) n ≡ timer_outcome m → IsAsked held_by saves_of faults_of gives (asks_of (outcome_by (timer_part.Built b) n)) kept old new → IsAsked held_by saves_of faults_of gives (asks_of (timer_outcome m)) kept old new

@@ -38,9 +38,9 @@ use Rattle.xl_core.specs.Answers.{given_in}
 use Rattle.xl_core.specs.Core.{Core, core_happens, core_asks, with_queues}
 use Rattle.xl_core.specs.CoreLives.{CoreHappening, core_after, held_after, given_over, validation_of, validation_split, validation_in, IsFrameCovered, SaidIsSaved}
 use Rattle.xl_core.specs.Hearing.{spoken_in}
-use Rattle.xl_core.specs.Items.{is_own, body_in, framed, frame_of, header_body_at}
+use Rattle.xl_core.specs.Items.{is_own, body_in, frame_for, frame_of, header_body_at}
 use Rattle.xl_core.specs.Node as nodes
-use Rattle.xl_core.specs.Node.{Node, Save, is_kept, issued_reply, issued_unless_off, issuing_reply, replying, timer_reply, timer_outcome, validates, refusing, at_moment, second_of, own_validation, happens, opened}
+use Rattle.xl_core.specs.Node.{Node, Save, is_kept, issued_reply, issued_unless_off, issuing_reply, reply_with, timer_reply, timer_outcome, validates, refusing_reply, at_moment, second_of, own_validation, happens, opened_node}
 use Rattle.xl_core.specs.Issuing.Save.{Kept, Failed}
 use Rattle.xl_core.specs.Queues.{waiting_at, frames_in}
 use Rattle.xl_core.specs.Sending.{blank_frame, sealed_bytes, has_spelling}
@@ -97,7 +97,7 @@ item_body kept n (HeaderItem id) covered = by (place_of n.ledgers.headers id)
     by (Some place) = tt
 
 framed_covered : (kept : ℕ) (n : Node) (to : ℕ) (o : Option Body) (rest : List (Option (List ℕ))) → IfSome o (IsBodyCovered kept) → All (IsFrameCovered kept) (frames_in rest) →
-    All (IsFrameCovered kept) (frames_in (option_and_then (framed n to) o ∷ rest))
+    All (IsFrameCovered kept) (frames_in (option_and_then (frame_for n to) o ∷ rest))
 framed_covered kept n to None rest covered each = each
 framed_covered kept n to (Some body) rest covered each =
     cond_both (has_spelling n.me to body) (Some (sealed_bytes n.keys n.me to body)) None (λ o. All (IsFrameCovered kept) (frames_in (o ∷ rest)))
@@ -111,7 +111,7 @@ frames_covered kept n to (item ∷ items) covered =
     (frames_covered kept n to items (All-tail (IsItemCovered kept) item items covered))
 
 -- the frame of a header says none
-header_covered : (kept : ℕ) (n : Node) (to ledger : ℕ) → IfSome (framed n to (header_body_at n ledger)) (IsFrameCovered kept)
+header_covered : (kept : ℕ) (n : Node) (to ledger : ℕ) → IfSome (frame_for n to (header_body_at n ledger)) (IsFrameCovered kept)
 header_covered kept n to ledger =
     cond_both (has_spelling n.me to (header_body_at n ledger)) (Some (sealed_bytes n.keys n.me to (header_body_at n ledger))) None (λ o. IfSome o (IsFrameCovered kept))
     (λ spelled. body_covered kept n.me to n.keys (header_body_at n ledger) spelled tt) (λ _. tt)
@@ -130,7 +130,7 @@ issued_rises n (Some failed) save v le = omega arith
 
 issuing_rises : (n : Node) (seq : ℕ) (id : LedgerId) (full : Bool) (save : Save) → n.kept ≤ (issuing_reply n seq id full save).node.kept
 issuing_rises n seq id full save =
-    cond_both (nat_lt n.kept seq) (issued_unless_off n n.failed_save save (own_validation n seq id full)) (refusing n (NotAfter n.kept)) (λ r. n.kept ≤ r.node.kept)
+    cond_both (nat_lt n.kept seq) (issued_unless_off n n.failed_save save (own_validation n seq id full)) (refusing_reply n (NotAfter n.kept)) (λ r. n.kept ≤ r.node.kept)
     (λ above. issued_rises n n.failed_save save (own_validation n seq id full) (omega (arith, ltb-true n.kept seq above)))
     (λ _. omega arith)
 
@@ -139,7 +139,7 @@ timer_rises n save =
     timing_by (λ t. n.kept ≤ (timer_reply t save).node.kept) n (λ r told said. omega arith)
     (λ ledgers r said h place moved_on _.
     let m : Node = record n { ledgers = ledgers; round = r } in
-    cond_both (validates m moved_on) (issuing_reply m h.seq (header_id h) (is_proposing r.setting.mode) save) (replying m Done []) (λ v. n.kept ≤ v.node.kept)
+    cond_both (validates m moved_on) (issuing_reply m h.seq (header_id h) (is_proposing r.setting.mode) save) (reply_with m Done []) (λ v. n.kept ≤ v.node.kept)
     (λ _. issuing_rises m h.seq (header_id h) (is_proposing r.setting.mode) save) (λ _. omega arith))
 
 timer_gives : (kept : ℕ) (n : Node) (save : Save) → All (IsFrameCovered kept) (given_in (timer_reply (timer_outcome n) save).answer)
@@ -187,7 +187,7 @@ step_on held core given (Issue now seq id full) save life =
     issue_gives : (kept : ℕ) (n : Node) (now seq : ℕ) (id : _) (full : Bool) (save : Save) → All (IsFrameCovered kept) (given_in (happens n (nodes.Issue now seq id full) save).answer)
     issue_gives kept n now seq id full save =
         let m : Node = at_moment now n in
-        cond_both (nat_lt m.kept seq) (issued_unless_off m m.failed_save save (own_validation m seq id full)) (refusing m (NotAfter m.kept)) (λ r. All (IsFrameCovered kept) (given_in r.answer))
+        cond_both (nat_lt m.kept seq) (issued_unless_off m m.failed_save save (own_validation m seq id full)) (refusing_reply m (NotAfter m.kept)) (λ r. All (IsFrameCovered kept) (given_in r.answer))
         (λ _. unless_gives kept m m.failed_save save (own_validation m seq id full)) (λ _. All-nil (IsFrameCovered kept))
 step_on held core given (Frame now bytes) save life =
     let e = nodes.Frame now bytes in
@@ -258,7 +258,7 @@ lives_on held core given (h ∷ hs) is =
 
 pub law_of_saves : SaidIsSaved
 law_of_saves settings now kept held life n keyed below may =
-    let core : Core = with_queues (opened settings now kept) in
+    let core : Core = with_queues (opened_node settings now kept) in
     let is = lives_on held core [] life (record { own = keyed.own; covered = opened_covered held settings now kept below; all = All-nil (IsFrameCovered kept) }) in
     let after = core_after core life in
     All-weaker (IsFrameCovered after.node.kept) (IsFrameCovered n) (still_covered after.node.kept n (is.covered.saved n may)) (given_over core life) is.all

@@ -13,14 +13,14 @@ use Rattle.xl_base.specs.Counts.{one_more}
 use Rattle.xl_queues.specs.Queues.{Backlog, no_items, passed_over}
 use Rattle.xl_wire.specs.declared.body.Body.{Body}
 use Rattle.xl_core.specs.declared.item.Item.{Item}
-use Rattle.xl_core.specs.Items.{body_in, framed, frame_of}
+use Rattle.xl_core.specs.Items.{body_in, frame_for, frame_of}
 use Rattle.xl_core.specs.Node.{Node}
 use Rattle.xl_tags.specs.Rings.{Ring}
 use Rattle.xl_core.specs.Sending.{sealed_bytes, has_spelling}
 use Rattle.xl_core.specs.declared.putting.Put.{Put}
 use Rattle.xl_core.specs.declared.putting.Put.TheVariants.{Written, PassedOver, NoRoom}
 use Rattle.xl_core.specs.Draining.{IsPut, Stands, TakesOne}
-use Rattle.xl_core.specs.Queues.{waiting_at, at_number, after_taking, fitting, frames_in, joined, lost_more}
+use Rattle.xl_core.specs.Queues.{waiting_at, at_number, after_taking, count_fitting, frames_in, stream_of, lost_more}
 
 -- THE FRAMES
 
@@ -31,8 +31,8 @@ frames_then : (fs : Frames) (o : Option (List ℕ)) → frames_in (fs ++ o ∷ [
 frames_then fs None = filter_map-append (λ (f : Option (List ℕ)). f) fs (None ∷ [])
 frames_then fs (Some f) = filter_map-append (λ (x : Option (List ℕ)). x) fs (Some f ∷ [])
 
-joined_then : (fs : List (List ℕ)) (f : List ℕ) → joined (fs ++ f ∷ []) ≡ joined fs ++ f
-joined_then fs f = flat_map-append (λ (x : List ℕ). x) fs (f ∷ []) ∙ ap (λ (xs : List ℕ). joined fs ++ xs) (append-nil f)
+joined_then : (fs : List (List ℕ)) (f : List ℕ) → stream_of (fs ++ f ∷ []) ≡ stream_of fs ++ f
+joined_then fs f = flat_map-append (λ (x : List ℕ). x) fs (f ∷ []) ∙ ap (λ (xs : List ℕ). stream_of fs ++ xs) (append-nil f)
 
 take_first : (fs rest : Frames) (n : ℕ) (o : Option (List ℕ)) → n ≤ length fs → drop n fs ≡ o ∷ rest → take (n + 1) fs ≡ take n fs ++ o ∷ []
 take_first fs rest n o few is =
@@ -45,7 +45,7 @@ drop_first fs rest n o is = ap (λ (k : ℕ). drop k fs) (omega arith) ∙ sym (
 
 -- WHAT WAITS
 
-lost_then : (n m lost : ℕ) → lost_more n (lost_more m lost) ≡ lost_more (m + n) lost
+pub lost_then : (n m lost : ℕ) → lost_more n (lost_more m lost) ≡ lost_more (m + n) lost
 lost_then zero m lost = ap (λ (k : ℕ). lost_more k lost) (omega arith)
 lost_then (suc n) m lost =
     let next : suc (m + n) ≡ m + suc n = omega arith in
@@ -54,7 +54,7 @@ lost_then (suc n) m lost =
 count_then : (fs : Frames) (o : Option (List ℕ)) → count_by is_none fs + count_by is_none (o ∷ []) ≡ count_by is_none (fs ++ o ∷ [])
 count_then fs o = sym (sum_by-append (λ (x : Option (List ℕ)). cond (is_none x) 1 0) fs (o ∷ []))
 
-same_backlog : {xs ys : List Item} {a b : ℕ} → xs ≡ ys → a ≡ b → (let q : Backlog Item = record { items = xs; lost = a } in q) ≡ (let q : Backlog Item = record { items = ys; lost = b } in q)
+pub same_backlog : {xs ys : List Item} {a b : ℕ} → xs ≡ ys → a ≡ b → (let q : Backlog Item = record { items = xs; lost = a } in q) ≡ (let q : Backlog Item = record { items = ys; lost = b } in q)
 same_backlog p q = cc
 
 -- one item more was taken
@@ -74,17 +74,17 @@ set-set (q ∷ qs) zero x y = refl
 set-set (q ∷ qs) (suc k) x y = ap (λ (rest : List (Backlog Item)). q ∷ rest) (set-set qs k x y)
 
 -- the queue of a number, once it was changed
-changed : (waiting : List (Backlog Item)) (number : ℕ) (f : Backlog Item → Backlog Item) → 1 ≤ number → number ≤ length waiting → waiting_at (at_number waiting number f) number ≡ f (waiting_at waiting number)
+pub changed : (waiting : List (Backlog Item)) (number : ℕ) (f : Backlog Item → Backlog Item) → 1 ≤ number → number ≤ length waiting → waiting_at (at_number waiting number f) number ≡ f (waiting_at waiting number)
 changed waiting zero f least most = absurd (omega arith)
 changed waiting (suc place) f least most = get_or-set_same waiting place (f (queue_of waiting place)) no_items (omega arith)
 
-changed_again : (waiting : List (Backlog Item)) (number : ℕ) (f g : Backlog Item → Backlog Item) → 1 ≤ number → number ≤ length waiting → at_number (at_number waiting number f) number g ≡ at_number waiting number (λ q. g (f q))
+pub changed_again : (waiting : List (Backlog Item)) (number : ℕ) (f g : Backlog Item → Backlog Item) → 1 ≤ number → number ≤ length waiting → at_number (at_number waiting number f) number g ≡ at_number waiting number (λ q. g (f q))
 changed_again waiting zero f g least most = refl
 changed_again waiting (suc place) f g least most =
     set-set waiting place (f (queue_of waiting place)) (g (queue_of (set waiting place (f (queue_of waiting place))) place))
     ∙ ap (λ (q : Backlog Item). set waiting place (g q)) (get_or-set_same waiting place (f (queue_of waiting place)) no_items (omega arith))
 
-at_number_same : (waiting : List (Backlog Item)) (number : ℕ) (f g : Backlog Item → Backlog Item) → ((q : Backlog Item) → f q ≡ g q) → at_number waiting number f ≡ at_number waiting number g
+pub at_number_same : (waiting : List (Backlog Item)) (number : ℕ) (f g : Backlog Item → Backlog Item) → ((q : Backlog Item) → f q ≡ g q) → at_number waiting number f ≡ at_number waiting number g
 at_number_same waiting zero f g same = refl
 at_number_same waiting (suc place) f g same = ap (set waiting place) (same (queue_of waiting place))
 
@@ -97,21 +97,21 @@ length_changed waiting (suc place) f = length-set waiting place (f (queue_of wai
 -- so many of these frames stand at the front of a room
 pub record IsWritten (fs : Frames) (count : ℕ) (old_room room : List ℕ) (at : ℕ) : Type 0 where
   pub few : count ≤ length fs
-  pub written : room ≡ joined (frames_in (take count fs)) ++ drop at old_room
-  pub place : at ≡ length (joined (frames_in (take count fs)))
+  pub written : room ≡ stream_of (frames_in (take count fs)) ++ drop at old_room
+  pub place : at ≡ length (stream_of (frames_in (take count fs)))
   pub within : at ≤ length old_room
-  pub fits : count + fitting (drop count fs) (length old_room - at) ≡ fitting fs (length old_room)
+  pub fits : count + count_fitting (drop count fs) (length old_room - at) ≡ count_fitting fs (length old_room)
 
 pub written_none : (fs : Frames) (room : List ℕ) → IsWritten fs 0 room room 0
 written_none fs room =
     let whole : length room - 0 ≡ length room = omega arith in
-    let same : fitting fs (length room - 0) ≡ fitting fs (length room) = ap (fitting fs) whole in
+    let same : count_fitting fs (length room - 0) ≡ count_fitting fs (length room) = ap (count_fitting fs) whole in
     record { few = omega arith; written = refl; place = refl; within = omega arith; fits = omega (arith, same) }
 
 -- the room is as long as it was
 pub written_long : (fs : Frames) (count : ℕ) (old_room room : List ℕ) (at : ℕ) → IsWritten fs count old_room room at → length room ≡ length old_room
 written_long fs count old_room room at so_far =
-    omega (arith, ap length so_far.written, length-append (joined (frames_in (take count fs))) (drop at old_room), length-drop at old_room, so_far.place, so_far.within)
+    omega (arith, ap length so_far.written, length-append (stream_of (frames_in (take count fs))) (drop at old_room), length-drop at old_room, so_far.place, so_far.within)
 
 -- the next frame is written, or what has none is passed over
 pub written_more : (fs rest : Frames) (count : ℕ) (old_room mid new : List ℕ) (at at' : ℕ) (o : Option (List ℕ)) → IsWritten fs count old_room mid at → drop count fs ≡ o ∷ rest → Stands o at at' mid new →
@@ -121,19 +121,19 @@ written_more fs rest count old_room mid new at at' None so_far first stands =
     subst (λ (k : ℕ). IsWritten fs (count + 1) old_room new k) (sym stands.0)
     (record {
       few = omega (arith, ap length first, length-drop count fs);
-      written = stands.1 ∙ so_far.written ∙ ap (λ (xs : List (List ℕ)). joined xs ++ drop at old_room) (sym frames);
-      place = so_far.place ∙ ap (λ (xs : List (List ℕ)). length (joined xs)) (sym frames);
+      written = stands.1 ∙ so_far.written ∙ ap (λ (xs : List (List ℕ)). stream_of xs ++ drop at old_room) (sym frames);
+      place = so_far.place ∙ ap (λ (xs : List (List ℕ)). length (stream_of xs)) (sym frames);
       within = so_far.within;
-      fits = ap (λ (xs : Frames). count + 1 + fitting xs (length old_room - at)) (drop_first fs rest count None first)
+      fits = ap (λ (xs : Frames). count + 1 + count_fitting xs (length old_room - at)) (drop_first fs rest count None first)
           ∙ omega arith
-          ∙ ap (λ (xs : Frames). count + fitting xs (length old_room - at)) (sym first)
+          ∙ ap (λ (xs : Frames). count + count_fitting xs (length old_room - at)) (sym first)
           ∙ so_far.fits;
     })
 written_more fs rest count old_room mid new at at' (Some f) so_far first stands =
-    let before : List ℕ = joined (frames_in (take count fs)) in
+    let before : List ℕ = stream_of (frames_in (take count fs)) in
     let long : length mid ≡ length old_room = written_long fs count old_room mid at so_far in
-    let frames : joined (frames_in (take (count + 1) fs)) ≡ before ++ f =
-    ap joined (ap frames_in (take_first fs rest count (Some f) so_far.few first) ∙ frames_then (take count fs) (Some f)) ∙ joined_then (frames_in (take count fs)) f in
+    let frames : stream_of (frames_in (take (count + 1) fs)) ≡ before ++ f =
+    ap stream_of (ap frames_in (take_first fs rest count (Some f) so_far.few first) ∙ frames_then (take count fs) (Some f)) ∙ joined_then (frames_in (take count fs)) f in
     let front : take at mid ≡ before = ap (take at) so_far.written ∙ take_at before (drop at old_room) at (sym so_far.place) in
     let back : drop (at + length f) mid ≡ drop (at + length f) old_room =
     ap (drop (at + length f)) so_far.written ∙ ap (λ (k : ℕ). drop k (before ++ drop at old_room)) (omega arith) ∙ sym (drop-drop (length f) at (before ++ drop at old_room))
@@ -147,15 +147,15 @@ written_more fs rest count old_room mid new at at' (Some f) so_far first stands 
           ∙ ap (λ (xs : List ℕ). xs ++ drop (at + length f) old_room) (sym frames);
       place = omega (arith, ap length frames, length-append before f, so_far.place);
       within = omega (arith, stands.1.fits, long);
-      fits = ap (λ (xs : Frames). count + 1 + fitting xs (length old_room - (at + length f))) (drop_first fs rest count (Some f) first)
-          ∙ ap (λ (k : ℕ). count + 1 + fitting rest k) minus
-          ∙ omega (arith, cond-true (nat_le (length f) (length old_room - at)) (suc (fitting rest (length old_room - at - length f))) 0 (le-leb (length f) (length old_room - at) room))
-          ∙ ap (λ (xs : Frames). count + fitting xs (length old_room - at)) (sym first)
+      fits = ap (λ (xs : Frames). count + 1 + count_fitting xs (length old_room - (at + length f))) (drop_first fs rest count (Some f) first)
+          ∙ ap (λ (k : ℕ). count + 1 + count_fitting rest k) minus
+          ∙ omega (arith, cond-true (nat_le (length f) (length old_room - at)) (suc (count_fitting rest (length old_room - at - length f))) 0 (le-leb (length f) (length old_room - at) room))
+          ∙ ap (λ (xs : Frames). count + count_fitting xs (length old_room - at)) (sym first)
           ∙ so_far.fits;
     })
 
 -- nothing more fits
-pub written_all : (fs : Frames) (count : ℕ) (old_room room : List ℕ) (at : ℕ) → IsWritten fs count old_room room at → fitting (drop count fs) (length old_room - at) ≡ 0 → count ≡ fitting fs (length old_room)
+pub written_all : (fs : Frames) (count : ℕ) (old_room room : List ℕ) (at : ℕ) → IsWritten fs count old_room room at → count_fitting (drop count fs) (length old_room - at) ≡ 0 → count ≡ count_fitting fs (length old_room)
 written_all fs count old_room room at so_far none = omega (arith, so_far.fits, none)
 
 -- A DRAIN SO FAR
@@ -205,27 +205,27 @@ drained_more f old now next number old_room mid new at at' least most drain one 
 -- THE WHOLE DRAIN
 
 pub drained_end : (f : Item → Option (List ℕ)) (old now : List (Backlog Item)) (number : ℕ) (old_room room : List ℕ) (at : ℕ) → 1 ≤ number → number ≤ length old →
-    (drain : IsDrained (map f (waiting_at old number).items) old now number old_room room at) → fitting (map f (waiting_at now number).items) (length room - at) ≡ 0 →
-    drain.count ≡ fitting (map f (waiting_at old number).items) (length old_room)
+    (drain : IsDrained (map f (waiting_at old number).items) old now number old_room room at) → count_fitting (map f (waiting_at now number).items) (length room - at) ≡ 0 →
+    drain.count ≡ count_fitting (map f (waiting_at old number).items) (length old_room)
 drained_end f old now number old_room room at least most drain none =
     let fs : Frames = map f (waiting_at old number).items in
     let rest = frames_left f old now number old_room room at least most drain in
     let long = written_long fs drain.count old_room room at drain.so_far in
     written_all fs drain.count old_room room at drain.so_far
-    (ap (λ (xs : Frames). fitting xs (length old_room - at)) (sym rest) ∙ ap (λ (k : ℕ). fitting (map f (waiting_at now number).items) (k - at)) (sym long) ∙ none)
+    (ap (λ (xs : Frames). count_fitting xs (length old_room - at)) (sym rest) ∙ ap (λ (k : ℕ). count_fitting (map f (waiting_at now number).items) (k - at)) (sym long) ∙ none)
 
 -- a drain gives nothing exactly if nothing is left but what is passed over: each frame fits into the room
-pub none_left : (fs : Frames) (room : ℕ) → All (λ o. IfSome o (λ f. (0 < length f) × (length f ≤ room))) fs → length (joined (frames_in (take (fitting fs room) fs))) ≡ 0 → frames_in fs ≡ []
+pub none_left : (fs : Frames) (room : ℕ) → All (λ o. IfSome o (λ f. (0 < length f) × (length f ≤ room))) fs → length (stream_of (frames_in (take (count_fitting fs room) fs))) ≡ 0 → frames_in fs ≡ []
 none_left [] room fits none = refl
 none_left (None ∷ fs) room fits none = none_left fs room (All-tail (λ o. IfSome o (λ f. (0 < length f) × (length f ≤ room))) None fs fits) none
 none_left (Some f ∷ fs) room fits none =
     let its = All-head (λ o. IfSome o (λ g. (0 < length g) × (length g ≤ room))) (Some f) fs fits in
-    let room_for : fitting (Some f ∷ fs) room ≡ suc (fitting fs (room - length f)) = cond-true (nat_le (length f) room) (suc (fitting fs (room - length f))) 0 (le-leb (length f) room its.1) in
-    let given : List (List ℕ) = frames_in (take (fitting fs (room - length f)) fs) in
-    let long : length (joined (frames_in (take (fitting (Some f ∷ fs) room) (Some f ∷ fs)))) ≡ length (f ++ joined given) = ap (λ (k : ℕ). length (joined (frames_in (take k (Some f ∷ fs))))) room_for in
-    absurd (omega (arith, its.0, none, long, length-append f (joined given)))
+    let room_for : count_fitting (Some f ∷ fs) room ≡ suc (count_fitting fs (room - length f)) = cond-true (nat_le (length f) room) (suc (count_fitting fs (room - length f))) 0 (le-leb (length f) room its.1) in
+    let given : List (List ℕ) = frames_in (take (count_fitting fs (room - length f)) fs) in
+    let long : length (stream_of (frames_in (take (count_fitting (Some f ∷ fs) room) (Some f ∷ fs)))) ≡ length (f ++ stream_of given) = ap (λ (k : ℕ). length (stream_of (frames_in (take k (Some f ∷ fs))))) room_for in
+    absurd (omega (arith, its.0, none, long, length-append f (stream_of given)))
 
-pub none_given : (fs : Frames) (room : ℕ) → frames_in fs ≡ [] → length (joined (frames_in (take (fitting fs room) fs))) ≡ 0
+pub none_given : (fs : Frames) (room : ℕ) → frames_in fs ≡ [] → length (stream_of (frames_in (take (count_fitting fs room) fs))) ≡ 0
 none_given [] room none = refl
 none_given (None ∷ fs) room none = none_given fs room none
 none_given (Some f ∷ fs) room none = cc
@@ -281,16 +281,16 @@ passes_first f waiting after (suc place) reader at item old new is first none sa
         (ap (λ (y : Item). y ∷ xs) (same_item x e), ap (λ (b : Bool). (let q : Backlog Item = record { items = xs; lost = if b then lost else one_more lost } in q)) some)
 
 -- none is there
-pub none_there : (f : Item → Option (List ℕ)) (items : List Item) (room : ℕ) → slice_get items 0 ≡ None → fitting (map f items) room ≡ 0
+pub none_there : (f : Item → Option (List ℕ)) (items : List Item) (room : ℕ) → slice_get items 0 ≡ None → count_fitting (map f items) room ≡ 0
 none_there f [] room none = refl
 none_there f (item ∷ items) room none = cc
 
 -- the first is too long
-pub too_long : (f : Item → Option (List ℕ)) (items : List Item) (item : Item) (frame : List ℕ) (room : ℕ) → slice_get items 0 ≡ Some item → f item ≡ Some frame → room < length frame → fitting (map f items) room ≡ 0
+pub too_long : (f : Item → Option (List ℕ)) (items : List Item) (item : Item) (frame : List ℕ) (room : ℕ) → slice_get items 0 ≡ Some item → f item ≡ Some frame → room < length frame → count_fitting (map f items) room ≡ 0
 too_long f [] item frame room first its long = cc
 too_long f (x ∷ items) item frame room first its long =
-    ap (λ (o : Option (List ℕ)). fitting (o ∷ map f items) room) (ap f (same x item first) ∙ its)
-    ∙ cond-false (nat_le (length frame) room) (suc (fitting (map f items) (room - length frame))) 0 (lt-not-leb (length frame) room long)
+    ap (λ (o : Option (List ℕ)). count_fitting (o ∷ map f items) room) (ap f (same x item first) ∙ its)
+    ∙ cond-false (nat_le (length frame) room) (suc (count_fitting (map f items) (room - length frame))) 0 (lt-not-leb (length frame) room long)
   where
     same : (x y : Item) → Some x ≡ Some y → x ≡ y
     same x y e = cc
@@ -318,7 +318,7 @@ fewer_left f waiting after number at next old new least most takes =
 pub item_put : (n : Node) (ring : Ring) (to : ℕ) (item : Item) (body : Body) (at : ℕ) (old new : List ℕ) (r : Put) → ring ≡ n.keys → n.keys.me ≡ n.me → Some body ≡ body_in n item →
     has_spelling ring.me to body ≡ true → IsPut (Some (sealed_bytes ring ring.me to body)) at old new r → IsPut (frame_of n to item) at old new r
 item_put n ring to item body at old new r its own said spelled put =
-    subst (λ (o : Option Body). IsPut (option_and_then (framed n to) o) at old new r) said
+    subst (λ (o : Option Body). IsPut (option_and_then (frame_for n to) o) at old new r) said
     (subst (λ (m : ℕ). IsPut (if has_spelling m to body then Some (sealed_bytes n.keys m to body) else None) at old new r) own
     (subst (λ (k : Ring). IsPut (if has_spelling k.me to body then Some (sealed_bytes k k.me to body) else None) at old new r) its
     (subst (λ (o : Option (List ℕ)). IsPut o at old new r)
@@ -326,4 +326,4 @@ item_put n ring to item body at old new r its own said spelled put =
 
 -- what isn't said is passed over
 pub item_passed : (n : Node) (to : ℕ) (item : Item) (at : ℕ) (room : List ℕ) → None ≡ body_in n item → IsPut (frame_of n to item) at room room PassedOver
-item_passed n to item at room said = subst (λ (o : Option Body). IsPut (option_and_then (framed n to) o) at room room PassedOver) said refl
+item_passed n to item at room said = subst (λ (o : Option Body). IsPut (option_and_then (frame_for n to) o) at room room PassedOver) said refl

@@ -9,11 +9,11 @@ use Rattle.xl_core.specs.declared.hearing.Spoken.{Spoken}
 use Rattle.xl_core.specs.declared.hearing.Speech.{Speech}
 use Rattle.xl_core.specs.declared.refusal.Refusal.{Refusal}
 use Rattle.xl_core.specs.Hearing.{hearing_refusal, said_in, speech_of, spoken_in, Carries}
-use Rattle.xl_core.specs.Node.{Node, Reply, refusing, reply_unless, speech_refusal, taken_reply, speech_reply, frame_refusal, bytes_reply}
+use Rattle.xl_core.specs.Node.{Node, Reply, refusing_reply, reply_unless, speech_refusal, taken_reply, speech_reply, frame_refusal, bytes_reply}
 use Rattle.xl_core.proofs.Heard.{heard_where, heard_by, carried}
 
 -- what holds of each refusal, and of what is taken of what is heard, holds of what came of bytes
-pub hearing_either : (P : Reply → Type 0) (n : Node) (bytes : List ℕ) → ((why : Refusal) → P (refusing n why)) →
+pub hearing_either : (P : Reply → Type 0) (n : Node) (bytes : List ℕ) → ((why : Refusal) → P (refusing_reply n why)) →
     ((said : Spoken) → spoken_in n.keys n.list.members bytes ≡ Ok said → P (taken_reply n said.from said.what)) → P (bytes_reply n bytes)
 hearing_either P n bytes refuses takes =
     let said : Spoken = said_in (raw_in bytes) in
@@ -33,7 +33,7 @@ refused why = Err why
 same_cause : (a b : Refusal) → refused a ≡ refused b → a ≡ b
 same_cause a b e = cc
 
-pub nothing_heard : (n : Node) (bytes : List ℕ) (why : Refusal) → Err why ≡ spoken_in n.keys n.list.members bytes → (Some why ≡ frame_refusal n bytes) × (refusing n why ≡ bytes_reply n bytes)
+pub nothing_heard : (n : Node) (bytes : List ℕ) (why : Refusal) → Err why ≡ spoken_in n.keys n.list.members bytes → (Some why ≡ frame_refusal n bytes) × (refusing_reply n why ≡ bytes_reply n bytes)
 nothing_heard n bytes why is =
     let said : Spoken = said_in (raw_in bytes) in
     let first = by (hearing_refusal n.keys n.list.members bytes) is in (

@@ -1,5 +1,6 @@
 pub mod Heard
 pub mod Frames
+pub mod Saying
 pub mod Learning
 pub mod Building
 pub mod Switching

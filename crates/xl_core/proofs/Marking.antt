@@ -1,6 +1,6 @@
 -- The word that tells for whom something is left is right after each change.
-use Rattle.std.proofs.Common.{◌≡◌, ◌∙◌, ℕ, suc, ◌<◌, ◌≤◌, ◌++◌, Bool, true, false, cond, eqb, List, [], ◌∷◌, length, drop, get_or, refl, sym, ap, subst, arith, None, Option, ne_eqb}
-use Rattle.std.proofs.lemmas.List.{get_or-map, get_or-replicate, length-replicate, length-append, length-drop, length-map}
+use Rattle.std.proofs.Common.{◌≡◌, ◌∙◌, ℕ, suc, ◌<◌, ◌≤◌, ◌++◌, Bool, true, false, cond, eqb, List, [], ◌∷◌, length, drop, get_or, refl, sym, ap, subst, arith, None, Some, Option, ne_eqb}
+use Rattle.std.proofs.lemmas.List.{ext_get_or, get_or-map, get_or-replicate, length-replicate, length-append, length-drop, length-map}
 use Rattle.std.proofs.lemmas.Nat.Bits.{bit_at_ones, bit_at-zero}
 use Rattle.std.specs.Prelude.{is_some, nat_lt}
 use Rattle.xl_queues.specs.Broadcasts.{pushed_to_all}
@@ -36,6 +36,19 @@ pushed_marks word waiting item greetings was = record {
       ∙ sym (ap (λ (q : Backlog Item). mark (cond (is_some (greeting_at greetings (suc place))) false (eqb (length q.items) 0))) is
       ∙ ap mark (busy (is_some (greeting_at greetings (suc place))) (length (pushed most_waiting queue.items item)) (pushed_some queue.items item)));
 }
+
+-- a clear mark says that nobody was greeted
+unmarked : (o : Option Greeting) (idle : Bool) → mark (cond (is_some o) false idle) ≡ 0 → o ≡ None
+unmarked None idle clear = refl
+unmarked (Some greeting) idle clear = absurd (omega (arith, clear))
+
+pub none_left : (greetings : List (Option Greeting)) (waiting : List (Backlog Item)) → length greetings ≡ 64 → AreMarks 0 greetings waiting → greetings ≡ none_greeted
+none_left greetings waiting long marks =
+    ext_get_or None greetings none_greeted (long ∙ sym (length-replicate {A = Option Greeting} 64 None))
+    (λ place within.
+    let lt : place < 64 = omega (arith, within, long) in
+    unmarked (get_or greetings place None) (eqb (length (get_or waiting place no_items).items) 0) (sym (marks.each place lt) ∙ bit_at-zero place)
+    ∙ sym (get_or-replicate 64 place None None lt))
 
 -- nothing was ever left
 pub none_marked : (waiting : List (Backlog Item)) → waiting ≡ none_waiting → AreMarks 0 none_greeted waiting

@@ -12,13 +12,13 @@ use Rattle.xl_core.specs.declared.report.Report.{Report}
 use Rattle.xl_core.specs.Greetings.{none_greeted}
 use Rattle.xl_core.specs.Queues.{none_waiting}
 use Rattle.xl_core.specs.Core.{Core, with_queues}
-use Rattle.xl_core.specs.Node.{Node, opened}
+use Rattle.xl_core.specs.Node.{Node, opened_node}
 use Rattle.xl_core.specs.Rest.{IsAtRest, IsKeyed, IsReady}
 use Rattle.xl_core.proofs.Current.{opened_current}
 use Rattle.xl_base.specs.Moments.{greatest_millis}
 use Rattle.xl_ledger.specs.Registries.{Ledgers, only_root}
 use Rattle.xl_tags.specs.Rings.{Ring}
-use Rattle.xl_rounds.specs.Rounds.{Round, opened as opened_round}
+use Rattle.xl_rounds.specs.Rounds.{Round, first_round as opened_round}
 use Rattle.xl_ledger.specs.declared.header.Header.{Header}
 use Rattle.xl_rounds.specs.declared.phase.Mode.{Mode}
 use Rattle.xl_core.specs.Building.{usual_mode}
@@ -29,7 +29,7 @@ none_counted : (members : List ℕ) (seq : ℕ) (id : LedgerId) → count_full s
 none_counted [] seq id = refl
 none_counted (m ∷ ms) seq id = omega (arith, count_by-cons (λ row. is_full_of seq id row.current) (empty_row m) (map empty_row ms), none_counted ms seq id)
 
-pub opened_at_rest : (settings : Settings) (now kept : ℕ) → IsValid settings.list → IsAtRest (opened settings now kept)
+pub opened_at_rest : (settings : Settings) (now kept : ℕ) → IsValid settings.list → IsAtRest (opened_node settings now kept)
 opened_at_rest settings now kept valid = record {
   valid = valid;
   members = members_opened settings.list.members;
@@ -45,12 +45,12 @@ first_round ledgers root mode validating time is_root is_mode =
 pub opened_ready : (settings : Settings) (now kept time : ℕ) (ledgers : Ledgers) (rows : List Row) (round : Round) (keys : Ring) → IsValid settings.list → IsKeyed settings.me settings.list.members settings.keys → now ≤ greatest_millis →
     time ≡ max now 1000 → ledgers ≡ only_root settings.limit → rows ≡ map empty_row settings.list.members →
     round ≡ opened_round ledgers.headers 0 (usual_mode settings.validating) time → keys ≡ settings.keys →
-    IsReady (record (opened settings now kept) { time = time; ledgers = ledgers; rows = rows; round = round; keys = keys })
+    IsReady (record (opened_node settings now kept) { time = time; ledgers = ledgers; rows = rows; round = round; keys = keys })
 opened_ready settings now kept time ledgers rows round keys valid keyed le time_is ledgers_are rows_are round_is keys_are =
-    subst (λ (t : ℕ). IsReady (record (opened settings now kept) { time = t; ledgers = ledgers; rows = rows; round = round; keys = keys })) (sym time_same)
-    (subst (λ (r : Ledgers). IsReady (record (opened settings now kept) { ledgers = r; rows = rows; round = round; keys = keys })) (sym ledgers_are)
-    (subst (λ (rs : List Row). IsReady (record (opened settings now kept) { rows = rs; round = round; keys = keys })) (sym rows_are)
-    (subst (λ (k : Ring). IsReady (record (opened settings now kept) { round = round; keys = k })) (sym keys_are)
+    subst (λ (t : ℕ). IsReady (record (opened_node settings now kept) { time = t; ledgers = ledgers; rows = rows; round = round; keys = keys })) (sym time_same)
+    (subst (λ (r : Ledgers). IsReady (record (opened_node settings now kept) { ledgers = r; rows = rows; round = round; keys = keys })) (sym ledgers_are)
+    (subst (λ (rs : List Row). IsReady (record (opened_node settings now kept) { rows = rs; round = round; keys = keys })) (sym rows_are)
+    (subst (λ (k : Ring). IsReady (record (opened_node settings now kept) { round = round; keys = k })) (sym keys_are)
     (record {
       rest = record { valid = at_rest.valid; members = at_rest.members; reported = at_rest.reported };
       keyed = keyed;
@@ -62,7 +62,7 @@ opened_ready settings now kept time ledgers rows round keys valid keyed le time_
     time_same : time ≡ max 1000 now
     time_same = omega (arith, time_is)
 
-    at_rest : IsAtRest (opened settings now kept)
+    at_rest : IsAtRest (opened_node settings now kept)
     at_rest = opened_at_rest settings now kept valid
 
 -- a core of these parts has nothing waiting

@@ -16,7 +16,7 @@ use Rattle.xl_validations.proofs.Splitting.{members, middle}
 use Rattle.xl_rounds.specs.Rounds.{Round}
 use Rattle.xl_core.specs.declared.last.LastReport.{LastReport}
 use Rattle.xl_core.specs.declared.report.Report.{Report}
-use Rattle.xl_core.specs.Lasts.{later, over_another_list}
+use Rattle.xl_core.specs.Lasts.{last_after, over_another_list}
 use Rattle.xl_core.specs.Node.{Node, Reply, arises_in, arisen_in, report_of, second_of}
 use Rattle.xl_core.specs.Replies.{list_reply}
 use Rattle.xl_core.specs.Rest.{IsCurrent, IsReady}
@@ -88,10 +88,10 @@ relisted_current second (m ∷ ms) rows each = All-cons (IsCurrent second) (row_
 -- it is ready
 pub list_ready : (n : Node) (list : TrustedList) (rows : List Row) (round : Round) (report : Option Report) → IsReady n → IsValid list → HasKeys n.keys list.members → rows ≡ relisted list.members n.rows →
     round.setting ≡ n.round.setting → report ≡ arisen_in list.quorum rows (over_another_list n.last) →
-    IsReady (record n { list = list; rows = rows; round = round; last = later (over_another_list n.last) report })
+    IsReady (record n { list = list; rows = rows; round = round; last = last_after (over_another_list n.last) report })
 list_ready n list rows round report ready valid keyed rows_are setting report_is =
-    subst (λ (o : Option Report). IsReady (record n { list = list; rows = rows; round = round; last = later (over_another_list n.last) o })) (sym report_is)
-    (subst (λ (rs : List Row). IsReady (record n { list = list; rows = rs; round = round; last = later (over_another_list n.last) (arisen_in list.quorum rs (over_another_list n.last)) })) (sym rows_are)
+    subst (λ (o : Option Report). IsReady (record n { list = list; rows = rows; round = round; last = last_after (over_another_list n.last) o })) (sym report_is)
+    (subst (λ (rs : List Row). IsReady (record n { list = list; rows = rs; round = round; last = last_after (over_another_list n.last) (arisen_in list.quorum rs (over_another_list n.last)) })) (sym rows_are)
     (let rest = set_rest n list valid in
     record {
       rest = record { valid = rest.valid; members = rest.members; reported = rest.reported };
@@ -102,4 +102,4 @@ list_ready n list rows round report ready valid keyed rows_are setting report_is
     }))
 
 abbrev so : Node → TrustedList → List Row → Round → Option Report → Reply
-so n list rows round o = list_reply (Ok o) (record n { list = list; rows = rows; round = round; last = later (over_another_list n.last) o })
+so n list rows round o = list_reply (Ok o) (record n { list = list; rows = rows; round = round; last = last_after (over_another_list n.last) o })

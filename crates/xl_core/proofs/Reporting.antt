@@ -24,9 +24,9 @@ use Rattle.xl_core.specs.declared.refusal.Refusal.{Refusal}
 use Rattle.xl_core.specs.declared.refusal.Refusal.TheVariants.{NotAfter}
 use Rattle.xl_core.specs.declared.report.Report.{Report}
 use Rattle.xl_core.specs.declared.taken.Taken.TheVariants.{Validation as TakenValidation}
-use Rattle.xl_core.specs.Lasts.{is_news, later}
+use Rattle.xl_core.specs.Lasts.{is_news, last_after}
 use Rattle.xl_core.specs.Lives.{Happening, SetNoList, sets_list, node_after, reports_in, last_of, set_then, set_after, IsNew, ReportsArise, ReportsRise}
-use Rattle.xl_core.specs.Node.{Node, Event, Issue, Frame, Timer, Submit, Relist, Quiet, Reply, Save, issued_unless_off, opened, happens, issued_reply, issuing_reply, replying, reply_unless, timer_reply, timer_outcome, validates, validating_built, with_tx, with_list, with_saved, refusing, reporting, with_taken, arises, arisen, report_of, taken_reply, bytes_reply, at_moment, second_of, own_validation, key_refusal}
+use Rattle.xl_core.specs.Node.{Node, Event, Issue, Frame, Timer, Submit, Relist, Quiet, Reply, Save, issued_unless_off, opened_node, happens, issued_reply, issuing_reply, reply_with, reply_unless, timer_reply, timer_outcome, validates, validating_built, with_tx, with_list, with_saved, refusing_reply, reporting_reply, with_taken, arises, new_report, report_of, taken_reply, bytes_reply, at_moment, second_of, own_validation, key_refusal}
 use Rattle.xl_core.specs.Issuing.Save.{Kept, Failed}
 use Rattle.xl_core.specs.Rest.{IsAtRest}
 use Rattle.xl_core.proofs.Answered.{few_rows}
@@ -45,7 +45,7 @@ barred last sets = record { report = last.report; relisted = last.relisted || se
 
 -- a reply's report has its quorum and is news, and it is the last one then
 pub record Reports (last : LastReport) (sets : Bool) (reply : Reply) : Type 0 where
-  pub last_is : reply.node.last ≡ later (barred last sets) reply.report
+  pub last_is : reply.node.last ≡ last_after (barred last sets) reply.report
   pub quorum : IfSome reply.report (λ r. reply.node.list.quorum ≤ count_full r.seq r.id reply.node.rows)
   pub news : IfSome reply.report (λ r. is_news (barred last sets) r.seq r.id ≡ true)
 
@@ -63,7 +63,7 @@ unbarred last = ap (λ (b : Bool). let l : LastReport = record { report = last.r
 -- nothing is reported
 quiet : (last : LastReport) (reply : Reply) → reply.node.last ≡ last → reply.report ≡ None → Reports last false reply
 quiet last reply same none = record {
-  last_is = same ∙ unbarred last ∙ sym (ap (later (barred last false)) none);
+  last_is = same ∙ unbarred last ∙ sym (ap (last_after (barred last false)) none);
   quorum = subst (λ o. IfSome o (λ r. reply.node.list.quorum ≤ count_full r.seq r.id reply.node.rows)) (sym none) tt;
   news = subst (λ o. IfSome o (λ r. is_news (barred last false) r.seq r.id ≡ true)) (sym none) tt;
 }
@@ -78,12 +78,12 @@ if_some P Q h None p = tt
 if_some P Q h (Some x) p = h x p
 
 -- rows report
-rows_report : (last : LastReport) (sets : Bool) (m : Node) (a : Answer) (issued : Option Validation) → m.last ≡ barred last sets → Reports last sets (reporting m a issued)
+rows_report : (last : LastReport) (sets : Bool) (m : Node) (a : Answer) (issued : Option Validation) → m.last ≡ barred last sets → Reports last sets (reporting_reply m a issued)
 rows_report last sets m a issued same =
     let passes = find_passes (arises m) (filter_map (λ row. row.current) m.rows) in
     let o : Option Validation = find (arises m) (filter_map (λ row. row.current) m.rows) in
     record {
-      last_is = ap (λ l. later l (arisen m)) same;
+      last_is = ap (λ l. last_after l (new_report m)) same;
       quorum = mapped (λ r. m.list.quorum ≤ count_full r.seq r.id m.rows) o
           (if_some (λ v. arises m v ≡ true) _ (λ v e. (parts_of m.list.quorum m.rows m.last v e).0) o passes);
       news = mapped (λ r. is_news (barred last sets) r.seq r.id ≡ true) o
@@ -106,17 +106,17 @@ taking_reports n from (speech.TxSet ids) = quiet n.last (taken_reply n from (spe
 taking_reports n from (speech.Tx tx) = quiet n.last (taken_reply n from (speech.Tx tx)) refl refl
 
 hearing_reports : (n : Node) (bytes : List ℕ) → Reports n.last false (bytes_reply n bytes)
-hearing_reports n bytes = hearing_either (Reports n.last false) n bytes (λ why. quiet n.last (refusing n why) refl refl) (λ said _. taking_reports n said.from said.what)
+hearing_reports n bytes = hearing_either (Reports n.last false) n bytes (λ why. quiet n.last (refusing_reply n why) refl refl) (λ said _. taking_reports n said.from said.what)
 
 issuing_reports : (n : Node) (seq : ℕ) (id : LedgerId) (full : Bool) (save : Save) → Reports n.last false (issuing_reply n seq id full save)
 issuing_reports n seq id full save =
-    cond_both (nat_lt n.kept seq) (issued_unless_off n n.failed_save save (own_validation n seq id full)) (refusing n (NotAfter n.kept)) (Reports n.last false)
-    (λ _. unless_reports n n.failed_save save (own_validation n seq id full)) (λ _. quiet n.last (refusing n (NotAfter n.kept)) refl refl)
+    cond_both (nat_lt n.kept seq) (issued_unless_off n n.failed_save save (own_validation n seq id full)) (refusing_reply n (NotAfter n.kept)) (Reports n.last false)
+    (λ _. unless_reports n n.failed_save save (own_validation n seq id full)) (λ _. quiet n.last (refusing_reply n (NotAfter n.kept)) refl refl)
 
 validating_reports : (n : Node) (h : Header) (moved_on : Bool) (save : Save) → Reports n.last false (validating_built n h moved_on save)
 validating_reports n h moved_on save =
-    cond_both (validates n moved_on) (issuing_reply n h.seq (header_id h) (is_proposing n.round.setting.mode) save) (replying n Done []) (Reports n.last false)
-    (λ _. issuing_reports n h.seq (header_id h) (is_proposing n.round.setting.mode) save) (λ _. quiet n.last (replying n Done []) refl refl)
+    cond_both (validates n moved_on) (issuing_reply n h.seq (header_id h) (is_proposing n.round.setting.mode) save) (reply_with n Done []) (Reports n.last false)
+    (λ _. issuing_reports n h.seq (header_id h) (is_proposing n.round.setting.mode) save) (λ _. quiet n.last (reply_with n Done []) refl refl)
 
 timer_reports : (n : Node) (save : Save) → Reports n.last false (timer_reply (timer_outcome n) save)
 timer_reports n save =
@@ -125,16 +125,16 @@ timer_reports n save =
     (λ ledgers round said h place moved_on _.
     let news = validating_reports (record n { ledgers = ledgers; round = round }) h moved_on save in record { last_is = news.last_is; quorum = news.quorum; news = news.news })
 
-list_reports : (n : Node) (list : TrustedList) (o : Option Refusal) → Reports n.last (is_none o) (reply_unless n o (reporting (with_list n list) Done None))
+list_reports : (n : Node) (list : TrustedList) (o : Option Refusal) → Reports n.last (is_none o) (reply_unless n o (reporting_reply (with_list n list) Done None))
 list_reports n list None = rows_report n.last true (with_list n list) Done None (ap (λ (b : Bool). let l : LastReport = record { report = n.last.report; relisted = b } in l) (sym (or-true n.last.relisted)))
-list_reports n list (Some why) = quiet n.last (refusing n why) refl refl
+list_reports n list (Some why) = quiet n.last (refusing_reply n why) refl refl
 
 pub happens_reports : (n : Node) (e : Event) (save : Save) → Reports n.last (sets_list n e) (happens n e save)
 happens_reports n (Issue now seq id full) save = issuing_reports (at_moment now n) seq id full save
 happens_reports n (Timer now) save = timer_reports (at_moment now n) save
 happens_reports n (Submit now tx) save =
     let m : Node = at_moment now n in
-    submit_either (Reports n.last false) m tx (λ why. quiet n.last (refusing m why) refl refl) (quiet n.last (replying (with_tx m tx) Done (Tx tx ∷ [])) refl refl)
+    submit_either (Reports n.last false) m tx (λ why. quiet n.last (refusing_reply m why) refl refl) (quiet n.last (reply_with (with_tx m tx) Done (Tx tx ∷ [])) refl refl)
 happens_reports n (Frame now bytes) save = hearing_reports (at_moment now n) bytes
 happens_reports n (Relist now list) save = list_reports (at_moment now n) list (key_refusal (at_moment now n) list)
 
@@ -151,12 +151,12 @@ last_by : (n : Node) (before : Option Report) (set : Bool) (h : Happening) (hs :
 last_by n before set h hs same rest None none =
     let m : Node = (happens n h.event h.save).node in
     let sets : Bool = sets_list n h.event in
-    let is : m.last ≡ record { report = before; relisted = set || sets } = (happens_reports n h.event h.save).last_is ∙ ap (later (barred n.last sets)) none ∙ ap (λ l. barred l sets) same in
+    let is : m.last ≡ record { report = before; relisted = set || sets } = (happens_reports n h.event h.save).last_is ∙ ap (last_after (barred n.last sets)) none ∙ ap (λ l. barred l sets) same in
     rest m before (set || sets) is ∙ ap (λ (o : Option Report). let l : LastReport = record { report = last_of before (option_to_list o ++ reports_in m hs); relisted = set_after m (set_then set sets o) hs } in l) (sym none)
 last_by n before set h hs same rest (Some r) some =
     let m : Node = (happens n h.event h.save).node in
     let sets : Bool = sets_list n h.event in
-    let is : m.last ≡ record { report = Some r; relisted = false } = (happens_reports n h.event h.save).last_is ∙ ap (later (barred n.last sets)) some in
+    let is : m.last ≡ record { report = Some r; relisted = false } = (happens_reports n h.event h.save).last_is ∙ ap (last_after (barred n.last sets)) some in
     rest m (Some r) false is ∙ ap (λ (o : Option Report). let l : LastReport = record { report = last_of before (option_to_list o ++ reports_in m hs); relisted = set_after m (set_then set sets o) hs } in l) (sym some)
 
 last_then : (n : Node) (before : Option Report) (set : Bool) (life : List Happening) → Remembers n before set life
@@ -198,7 +198,7 @@ news_of (Some l) set r new =
 arises_now : (n : Node) (last : LastReport) (sets : Bool) (reply : Reply) (r : Report) → IsAtRest reply.node → Reports last sets reply → reply.node.list.quorum ≤ count_full r.seq r.id reply.node.rows →
     is_news (barred last sets) r.seq r.id ≡ true → (o : Option Report) → reply.report ≡ o → reply.report ≡ Some r
 arises_now n last sets reply r rest is enough news None none =
-    let still : reply.node.last ≡ barred last sets = is.last_is ∙ ap (later (barred last sets)) none in
+    let still : reply.node.last ≡ barred last sets = is.last_is ∙ ap (last_after (barred last sets)) none in
     let never : true ≡ false = sym news ∙ (ap (λ l. is_news l r.seq r.id) (sym still) ∙ rest.reported r.seq r.id enough) in
     cc
 arises_now n last sets reply r rest is enough news (Some q) some =
@@ -208,7 +208,7 @@ arises_now n last sets reply r rest is enough news (Some q) some =
 
 pub reports_arise : ReportsArise
 reports_arise settings now kept life next r valid fit next_fit =
-    let first : Node = opened settings now kept in
+    let first : Node = opened_node settings now kept in
     let n : Node = node_after first life in
     let reply : Reply = happens n next.event next.save in
     let sets : Bool = sets_list n next.event in
@@ -244,11 +244,11 @@ first_above l r news =
     ]
 
 -- a report, or none, and then what rises
-comes_first : (last after : LastReport) (o : Option Report) (more : List Report) → after ≡ later last o → Rises after more → IsStrictlyIncreasing (map (λ r. r.seq) (option_to_list o ++ more))
+comes_first : (last after : LastReport) (o : Option Report) (more : List Report) → after ≡ last_after last o → Rises after more → IsStrictlyIncreasing (map (λ r. r.seq) (option_to_list o ++ more))
 comes_first last after None more same rises = rises.rising
 comes_first last after (Some r) more same rises = rising_cons r.seq (map (λ q. q.seq) more) rises.rising (All-map (λ x. r.seq < x) (λ q. q.seq) more (rises.above r same))
 
-above_both : (l : Report) (last after : LastReport) (o : Option Report) (more : List Report) → after ≡ later last o → IfSome o (λ r. is_news last r.seq r.id ≡ true) → Rises after more → last ≡ record { report = Some l; relisted = false } →
+above_both : (l : Report) (last after : LastReport) (o : Option Report) (more : List Report) → after ≡ last_after last o → IfSome o (λ r. is_news last r.seq r.id ≡ true) → Rises after more → last ≡ record { report = Some l; relisted = false } →
     All (λ r. l.seq < r.seq) (option_to_list o ++ more)
 above_both l last after None more same news rises is = rises.above l (same ∙ is)
 above_both l last after (Some r) more same news rises is =
@@ -261,7 +261,7 @@ rises_in n (h ∷ hs) none =
     let reply : Reply = happens n h.event h.save in
     let is : Reports n.last false reply = subst (λ b. Reports n.last b reply) none.0 (happens_reports n h.event h.save) in
     let bar : barred n.last false ≡ n.last = sym (unbarred n.last) in
-    let after : reply.node.last ≡ later n.last reply.report = is.last_is ∙ ap (λ l. later l reply.report) bar in
+    let after : reply.node.last ≡ last_after n.last reply.report = is.last_is ∙ ap (λ l. last_after l reply.report) bar in
     let news : IfSome reply.report (λ r. is_news n.last r.seq r.id ≡ true) = subst (λ l. IfSome reply.report (λ r. is_news l r.seq r.id ≡ true)) bar is.news in
     let rest : Rises reply.node.last (reports_in reply.node hs) = rises_in reply.node hs none.1 in
     record {
@@ -271,7 +271,7 @@ rises_in n (h ∷ hs) none =
 
 pub reports_rise : ReportsRise
 reports_rise settings now kept life first more none =
-    let n : Node = node_after (opened settings now kept) life in
+    let n : Node = node_after (opened_node settings now kept) life in
     let reply : Reply = happens n first.event first.save in
     let is = happens_reports n first.event first.save in
     comes_first (barred n.last (sets_list n first.event)) reply.node.last reply.report (reports_in reply.node more) is.last_is (rises_in reply.node more none)

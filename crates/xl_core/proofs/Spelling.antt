@@ -10,6 +10,7 @@ use Rattle.xl_tags.specs.Macs.{mac}
 use Rattle.xl_tags.specs.Rings.{Ring, key_of}
 use Rattle.xl_tags.specs.Sealing.{before_tag, sealed}
 use Rattle.xl_base.specs.declared.ids.LedgerId.{LedgerId}
+use Rattle.xl_wire.specs.Lengths.{longest_frame}
 use Rattle.xl_wire.specs.declared.body.Body.{Body}
 use Rattle.xl_wire.specs.declared.body.Body.TheVariants as bodies
 use Rattle.xl_wire.specs.declared.proposal.Proposal.{Proposal}
@@ -21,7 +22,7 @@ use Rattle.xl_wire.specs.Raws.{raw_bytes, IsRaw}
 use Rattle.xl_wire.proofs.BodyLaws.{spelled_lawful}
 use Rattle.xl_wire.proofs.RawLaws.{length-raw_bytes}
 use Rattle.xl_core.specs.declared.item.Item.{Item}
-use Rattle.xl_core.specs.Items.{framed, frame_of, body_in}
+use Rattle.xl_core.specs.Items.{frame_for, frame_of, body_in}
 use Rattle.xl_core.specs.Node.{Node}
 use Rattle.xl_core.specs.Sending.{blank_frame, sealed_bytes, fits, has_spelling, is_id}
 
@@ -81,7 +82,7 @@ all_four a b c d ea eb ec ed = rw (ea, eb, ec, ed) refl
 all_five : (a b c d e : Bool) → a ≡ true → b ≡ true → c ≡ true → d ≡ true → e ≡ true → (a && b && c && d && e) ≡ true
 all_five a b c d e ea eb ec ed ee = rw (ea, eb, ec, ed, ee) refl
 
-body_fits : (body : Body) → IsBody body → fits body ≡ true
+pub body_fits : (body : Body) → IsBody body → fits body ≡ true
 body_fits (bodies.Proposal p) is =
     all_five (length p.prev.0 == 32) (length p.set.0 == 32) (nat_lt p.pseq (2 ^ 32)) (nat_lt p.close (2 ^ 32)) (nat_lt p.time (2 ^ 32))
     (eq-eqb (length p.prev.0) 32 is.prev) (eq-eqb (length p.set.0) 32 is.set) (lt-ltb p.pseq (2 ^ 32) is.pseq) (lt-ltb p.close (2 ^ 32) is.close) (lt-ltb p.time (2 ^ 32) is.time)
@@ -109,20 +110,20 @@ small (bodies.Header header) n h = omega (arith, eqb-true n 118 h)
 small (bodies.TxSet ids) n h = grind (arith, nat_tests)
 small (bodies.Tx id) n h = omega (arith, eqb-true n 32 h)
 
-sealed_most : (ring : Ring) (from to : ℕ) (body : Body) → has_spelling from to body ≡ true → (0 < length (sealed_bytes ring from to body)) × (length (sealed_bytes ring from to body) ≤ 8240)
+sealed_most : (ring : Ring) (from to : ℕ) (body : Body) → has_spelling from to body ≡ true → (0 < length (sealed_bytes ring from to body)) × (length (sealed_bytes ring from to body) ≤ longest_frame)
 sealed_most ring from to body spelled =
     let raw = sealed_raw ring from to body spelled in
     let long = length-raw_bytes (sealed ring (raw_of (blank_frame from to body))) raw.tag in
     (omega (arith, long), omega (arith, long, small body (length (body_bytes body)) raw.lawful))
 
 -- so each frame fits into a room that has place for the longest
-pub framed_fits : (n : Node) (to room : ℕ) (o : Option Body) → 8240 ≤ room → IfSome (option_and_then (framed n to) o) (λ f. (0 < length f) × (length f ≤ room))
+pub framed_fits : (n : Node) (to room : ℕ) (o : Option Body) → longest_frame ≤ room → IfSome (option_and_then (frame_for n to) o) (λ f. (0 < length f) × (length f ≤ room))
 framed_fits n to room None enough = tt
 framed_fits n to room (Some body) enough =
     cond_both (has_spelling n.me to body) (Some (sealed_bytes n.keys n.me to body)) None (λ o. IfSome o (λ f. (0 < length f) × (length f ≤ room)))
     (λ spelled. let long = sealed_most n.keys n.me to body spelled in (long.0, omega (arith, long.1, enough))) (λ _. tt)
 
-pub frames_fit : (n : Node) (to room : ℕ) (items : List Item) → 8240 ≤ room → All (λ o. IfSome o (λ f. (0 < length f) × (length f ≤ room))) (map (frame_of n to) items)
+pub frames_fit : (n : Node) (to room : ℕ) (items : List Item) → longest_frame ≤ room → All (λ o. IfSome o (λ f. (0 < length f) × (length f ≤ room))) (map (frame_of n to) items)
 frames_fit n to room [] enough = All-nil (λ o. IfSome o (λ f. (0 < length f) × (length f ≤ room)))
 frames_fit n to room (item ∷ items) enough =
     All-cons (λ o. IfSome o (λ f. (0 < length f) × (length f ≤ room))) (frame_of n to item) (map (frame_of n to) items) (framed_fits n to room (body_in n item) enough) (frames_fit n to room items enough)

@@ -14,11 +14,11 @@ use Rattle.xl_core.specs.declared.hearing.Speech.TheVariants as speech
 use Rattle.xl_core.specs.declared.refusal.Refusal.{Refusal}
 use Rattle.xl_core.specs.declared.refusal.Refusal.TheVariants.{NotAfter}
 use Rattle.xl_core.specs.declared.report.Report.{Report}
-use Rattle.xl_core.specs.Node.{Node, Event, Issue, Frame, Timer, Submit, Relist, Reply, Save, happens, issuing_reply, replying, timer_reply, timer_outcome, validates, validating_built, taken_reply, bytes_reply, issued_reply, issued_unless_off, refusing, at_moment, second_of, own_validation}
+use Rattle.xl_core.specs.Node.{Node, Event, Issue, Frame, Timer, Submit, Relist, Reply, Save, happens, issuing_reply, reply_with, timer_reply, timer_outcome, validates, validating_built, taken_reply, bytes_reply, issued_reply, issued_unless_off, refusing_reply, at_moment, second_of, own_validation}
 use Rattle.xl_core.specs.Issuing.Save.{Kept, Failed}
 use Rattle.xl_core.specs.Answers.{Refused, Took, Done}
 use Rattle.xl_core.specs.Queues.{with_report}
-use Rattle.xl_core.specs.Core.{Core, stepped}
+use Rattle.xl_core.specs.Core.{Core, after_reply}
 use Rattle.xl_core.specs.Replies.{Answers, hear_reply, issue_reply, list_reply}
 use Rattle.xl_core.specs.declared.item.Item.{Item}
 use Rattle.xl_core.specs.declared.item.Item.TheVariants.{Validation as ValidationItem}
@@ -57,12 +57,12 @@ same_later n m now same = record { me = same.me; keys = same.keys }
 
 issuing_same : (n : Node) (seq : ℕ) (id : LedgerId) (full : Bool) (save : Save) → IsSame n (issuing_reply n seq id full save).node
 issuing_same n seq id full save =
-    cond_both (nat_lt n.kept seq) (issued_unless_off n n.failed_save save (own_validation n seq id full)) (refusing n (NotAfter n.kept)) (λ r. IsSame n r.node)
+    cond_both (nat_lt n.kept seq) (issued_unless_off n n.failed_save save (own_validation n seq id full)) (refusing_reply n (NotAfter n.kept)) (λ r. IsSame n r.node)
     (λ _. unless_same n n.failed_save save (own_validation n seq id full)) (λ _. record { me = refl; keys = refl })
 
 validating_same : (n : Node) (h : Header) (moved_on : Bool) (save : Save) → IsSame n (validating_built n h moved_on save).node
 validating_same n h moved_on save =
-    cond_both (validates n moved_on) (issuing_reply n h.seq (header_id h) (is_proposing n.round.setting.mode) save) (replying n Done []) (λ r. IsSame n r.node)
+    cond_both (validates n moved_on) (issuing_reply n h.seq (header_id h) (is_proposing n.round.setting.mode) save) (reply_with n Done []) (λ r. IsSame n r.node)
     (λ _. issuing_same n h.seq (header_id h) (is_proposing n.round.setting.mode) save) (λ _. record { me = refl; keys = refl })
 
 timer_same : (n : Node) (save : Save) → IsSame n (timer_reply (timer_outcome n) save).node
@@ -84,27 +84,27 @@ stays_itself n (Relist now list) save =
 
 -- what was heard
 pub heard_step : (core : Core) (n : Node) (heard : Heard) (untaken : Backlog Report) (reply : Reply) → hear_reply (Ok heard) n ≡ reply → untaken ≡ with_report core.untaken heard.report →
-    Answers (stepped core reply) (record core { node = n; untaken = untaken }) (Took heard.taken)
+    Answers (after_reply core reply) (record core { node = n; untaken = untaken }) (Took heard.taken)
 heard_step core n heard untaken reply is pushed =
-    subst (λ (r : Reply). Answers (stepped core r) (record core { node = n; untaken = untaken }) (Took heard.taken)) is
+    subst (λ (r : Reply). Answers (after_reply core r) (record core { node = n; untaken = untaken }) (Took heard.taken)) is
     (record { core = ap (λ (u : Backlog Report). let c : Core = record core { node = n; untaken = u } in c) pushed; answer = refl })
 
-pub refused_step : (core : Core) (n : Node) (why : Refusal) (reply : Reply) → refusing n why ≡ reply → Answers (stepped core reply) (record core { node = n }) (Refused why)
+pub refused_step : (core : Core) (n : Node) (why : Refusal) (reply : Reply) → refusing_reply n why ≡ reply → Answers (after_reply core reply) (record core { node = n }) (Refused why)
 refused_step core n why reply is =
-    subst (λ (r : Reply). Answers (stepped core r) (record core { node = n }) (Refused why)) is (record { core = refl; answer = refl })
+    subst (λ (r : Reply). Answers (after_reply core r) (record core { node = n }) (Refused why)) is (record { core = refl; answer = refl })
 
 -- a list was set
 pub list_step : (core : Core) (n : Node) (report : Option Report) (untaken : Backlog Report) (reply : Reply) → list_reply (Ok report) n ≡ reply → untaken ≡ with_report core.untaken report →
-    Answers (stepped core reply) (record core { node = n; untaken = untaken }) Done
+    Answers (after_reply core reply) (record core { node = n; untaken = untaken }) Done
 list_step core n report untaken reply is pushed =
-    subst (λ (r : Reply). Answers (stepped core r) (record core { node = n; untaken = untaken }) Done) is
+    subst (λ (r : Reply). Answers (after_reply core r) (record core { node = n; untaken = untaken }) Done) is
     (record { core = ap (λ (u : Backlog Report). let c : Core = record core { node = n; untaken = u } in c) pushed; answer = refl })
 
 -- what was issued
 pub issued_step : (core : Core) (n : Node) (done : OwnValidation) (waiting : List (Backlog Item)) (untaken : Backlog Report) (reply : Reply) → issue_reply (Ok done) n ≡ reply →
-    waiting ≡ pushed_to_all 64 core.waiting (ValidationItem done.validation) → untaken ≡ with_report core.untaken done.report → Answers (stepped core reply) (record core { node = n; waiting = waiting; untaken = untaken }) Done
+    waiting ≡ pushed_to_all 64 core.waiting (ValidationItem done.validation) → untaken ≡ with_report core.untaken done.report → Answers (after_reply core reply) (record core { node = n; waiting = waiting; untaken = untaken }) Done
 issued_step core n done waiting untaken reply is waits pushed =
-    subst (λ (r : Reply). Answers (stepped core r) (record core { node = n; waiting = waiting; untaken = untaken }) Done) is
+    subst (λ (r : Reply). Answers (after_reply core r) (record core { node = n; waiting = waiting; untaken = untaken }) Done) is
     (record {
       core = ap (λ (ws : List (Backlog Item)). let c : Core = record core { node = n; waiting = ws; untaken = untaken } in c) waits
           ∙ ap (λ (u : Backlog Report). let c : Core = record core { node = n; waiting = pushed_to_all 64 core.waiting (ValidationItem done.validation); untaken = u } in c) pushed;

@@ -31,10 +31,10 @@ use Rattle.xl_core.specs.declared.refusal.Refusal.{Refusal}
 use Rattle.xl_core.specs.declared.refusal.Refusal.TheVariants.{NotAfter}
 use Rattle.xl_core.specs.Hearing.{spoken_in}
 use Rattle.xl_core.specs.Answers.{given_in, handed_in}
-use Rattle.xl_core.specs.Node.{Node, Reply, Save, placing, placed_as, taken_reply, bytes_reply, issued_reply, issued_unless_off, issuing_reply, asks_for, asks_of, replying, timer_reply, validates, validating_built, refusing, at_moment, second_of, own_validation, take, unless_failed, is_kept, opened}
+use Rattle.xl_core.specs.Node.{Node, Reply, Save, proposal_answer, placed_as, taken_reply, bytes_reply, issued_reply, issued_unless_off, issuing_reply, asks_for, asks_of, reply_with, timer_reply, validates, validating_built, refusing_reply, at_moment, second_of, own_validation, take, unless_failed, is_kept, opened_node}
 use Rattle.xl_core.specs.Issuing.Save.{Kept, Failed}
 use Rattle.xl_core.specs.Queues.{with_items, at_number, after_taking, waiting_at}
-use Rattle.xl_core.specs.Core.{Core, stepped, with_queues, greeted_frames, given_for, core_happens, core_asks}
+use Rattle.xl_core.specs.Core.{Core, after_reply, with_queues, greeted_frames, given_for, core_happens, core_asks}
 use Rattle.xl_core.specs.declared.event.CoreEvent.TheVariants.{Issue, Frame, Timer, Submit, Drain, Relist}
 use Rattle.xl_core.specs.declared.item.Item.{Item}
 use Rattle.xl_core.specs.declared.item.Item.TheVariants.{Validation as ValidationItem, Tx, TxSet, Proposal, Header as HeaderItem}
@@ -116,7 +116,7 @@ pub record IsAside (n : Node) (reply : Reply) : Type 0 where
   pub own : own_current reply.node ≡ own_current n
   pub items : reply.items ≡ []
 
-aside : (n : Node) (why : Refusal) → IsAside n (refusing n why)
+aside : (n : Node) (why : Refusal) → IsAside n (refusing_reply n why)
 aside n why = record { kept = refl; own = refl; items = refl }
 
 taking_aside : (n : Node) (from : ℕ) (what : Speech) → from ≢ n.me → IsAside n (taken_reply n from what)
@@ -152,8 +152,8 @@ taking_keeps n from (speech.Validation v) = record { kept = refl; given = refl; 
 taking_keeps n from (speech.Header h) = record { kept = refl; given = refl; handed = refl }
 taking_keeps n from (speech.Proposal p) = record {
   kept = refl;
-  given = place_given (placing n from p);
-  handed = place_handed (placing n from p);
+  given = place_given (proposal_answer n from p);
+  handed = place_handed (proposal_answer n from p);
 }
 taking_keeps n from (speech.TxSet ids) = record { kept = refl; given = refl; handed = refl }
 taking_keeps n from (speech.Tx tx) = record { kept = refl; given = refl; handed = refl }
@@ -164,7 +164,7 @@ heard_keeps n now bytes =
     hearing_either (IsHearing m) m bytes (λ _. record { kept = refl; given = refl; handed = refl }) (λ said _. taking_keeps m said.from said.what)
 
 -- a step that issues nothing
-step_covered : (held : Held) (core : Core) (reply : Reply) → reply.node.kept ≡ core.node.kept → AtMost core.node.kept (own_current reply.node) → reply.items ≡ [] → IsCovered held core → IsCovered held (stepped core reply).core
+step_covered : (held : Held) (core : Core) (reply : Reply) → reply.node.kept ≡ core.node.kept → AtMost core.node.kept (own_current reply.node) → reply.items ≡ [] → IsCovered held core → IsCovered held (after_reply core reply).core
 step_covered held core reply same own none was = record {
   saved = λ n may. omega (arith, was.saved n may, same);
   own = subst (λ (k : ℕ). AtMost k (own_current reply.node)) (sym same) own;
@@ -232,7 +232,7 @@ later_covered held core now was = record {
 
 -- a save of a greater number
 saves_covered : (held : Held) (core : Core) (save : Save) (v : Validation) → core.node.kept < v.seq → IsCovered held core →
-    IsCovered (after_save held (Some v.seq) (is_kept save)) (stepped core (issued_reply core.node (second_of core.node) save v)).core
+    IsCovered (after_save held (Some v.seq) (is_kept save)) (after_reply core (issued_reply core.node (second_of core.node) save v)).core
 saves_covered held core Kept v above was = record {
   saved = λ n may. elim may [
     | inl is ↦ omega (arith, is)
@@ -257,14 +257,14 @@ saves_covered held core (Failed count) v above was = record {
     same n e = cc
 
 unless_covered : (held : Held) (core : Core) (off : Option ℕ) (save : Save) (v : Validation) → core.node.kept < v.seq → IsCovered held core →
-    IsCovered (after_save held (unless_failed off v.seq) (is_kept save)) (stepped core (issued_unless_off core.node off save v)).core
+    IsCovered (after_save held (unless_failed off v.seq) (is_kept save)) (after_reply core (issued_unless_off core.node off save v)).core
 unless_covered held core None save v above was = saves_covered held core save v above was
 unless_covered held core (Some failed) save v above was = record { saved = was.saved; own = was.own; waiting = was.waiting }
 
 issuing_covered : (held : Held) (core : Core) (seq : ℕ) (save : Save) (v : Validation) (b : Bool) → nat_lt core.node.kept seq ≡ b → v.seq ≡ seq → IsCovered held core →
-    IsCovered (after_save held (cond b (unless_failed core.node.failed_save seq) None) (is_kept save)) (stepped core (cond b (issued_unless_off core.node core.node.failed_save save v) (refusing core.node (NotAfter core.node.kept)))).core
+    IsCovered (after_save held (cond b (unless_failed core.node.failed_save seq) None) (is_kept save)) (after_reply core (cond b (issued_unless_off core.node core.node.failed_save save v) (refusing_reply core.node (NotAfter core.node.kept)))).core
 issuing_covered held core seq save v true above same was =
-    subst (λ (s : ℕ). IsCovered (after_save held (unless_failed core.node.failed_save s) (is_kept save)) (stepped core (issued_unless_off core.node core.node.failed_save save v)).core) same
+    subst (λ (s : ℕ). IsCovered (after_save held (unless_failed core.node.failed_save s) (is_kept save)) (after_reply core (issued_unless_off core.node core.node.failed_save save v)).core) same
     (unless_covered held core core.node.failed_save save v (omega (arith, ltb-true core.node.kept seq above, same)) was)
 issuing_covered held core seq save v false above same was = record { saved = was.saved; own = was.own; waiting = was.waiting }
 
@@ -280,7 +280,7 @@ pub submit_covered : (held : Held) (core : Core) (now : ℕ) (tx : TxId) (save :
 submit_covered held core now tx save was =
     let m : Node = at_moment now core.node in
     let moved : IsCovered held (record core { node = m }) = later_covered held core now was in
-    submit_either (λ r. IsCovered held (stepped core r).core) m tx
+    submit_either (λ r. IsCovered held (after_reply core r).core) m tx
     (λ _. record { saved = moved.saved; own = moved.own; waiting = moved.waiting })
     (record { saved = moved.saved; own = moved.own; waiting = queues_most m.kept m.kept (Tx tx) core.waiting (omega arith) tt moved.waiting })
 
@@ -298,7 +298,7 @@ pub relist_covered : (held : Held) (core : Core) (now : ℕ) (list : TrustedList
 relist_covered held core now list save was =
     let m : Node = at_moment now core.node in
     let moved : IsCovered held (record core { node = m }) = later_covered held core now was in
-    relist_either (λ r. IsCovered held (stepped core r).core) m list
+    relist_either (λ r. IsCovered held (after_reply core r).core) m list
     (λ _. record { saved = moved.saved; own = moved.own; waiting = moved.waiting })
     (λ _. record { saved = moved.saved; own = relisted_most m.kept m.me list.members m.rows moved.own; waiting = moved.waiting })
 
@@ -306,7 +306,7 @@ relist_covered held core now list save was =
 
 -- what was built is validated, or not
 validating_covered : (held : Held) (core : Core) (h : Header) (full : Bool) (save : Save) (b : Bool) → IsCovered held core →
-    IsCovered (after_save held (cond b (asks_for core.node h.seq) None) (is_kept save)) (stepped core (cond b (issuing_reply core.node h.seq (header_id h) full save) (replying core.node Done []))).core
+    IsCovered (after_save held (cond b (asks_for core.node h.seq) None) (is_kept save)) (after_reply core (cond b (issuing_reply core.node h.seq (header_id h) full save) (reply_with core.node Done []))).core
 validating_covered held core h full save true was = issuing_covered held core h.seq save (own_validation core.node h.seq (header_id h) full) (nat_lt core.node.kept h.seq) refl refl was
 validating_covered held core h full save false was = record { saved = was.saved; own = was.own; waiting = was.waiting }
 
@@ -315,7 +315,7 @@ pub timer_covered : (held : Held) (core : Core) (now : ℕ) (save : Save) → Is
 timer_covered held core now save was =
     let m : Node = at_moment now core.node in
     let moved : IsCovered held (record core { node = m }) = later_covered held core now was in
-    timing_by (λ t. IsCovered (after_save held (asks_of t) (is_kept save)) (stepped core (timer_reply t save)).core) m
+    timing_by (λ t. IsCovered (after_save held (asks_of t) (is_kept save)) (after_reply core (timer_reply t save)).core) m
     (λ r told said. record { saved = moved.saved; own = moved.own; waiting = many_most m.kept (said_items said) core.waiting (said_covered m.kept said) moved.waiting })
     (λ ledgers r said h place moved_on _.
     let built : Node = record m { ledgers = ledgers; round = r } in
@@ -388,7 +388,7 @@ empty_most kept me (m ∷ ms) =
     cond_both (m == me) (Some (empty_row m)) (row_of (map empty_row ms) me) (λ o. AtMost kept (option_and_then (λ row. row.current) o)) (λ _. tt) (λ _. empty_most kept me ms)
 
 -- nothing is said yet
-pub opened_covered : (held : Held) (settings : Settings) (now kept : ℕ) → ((n : ℕ) → MayHold held n → kept ≤ n) → IsCovered held (with_queues (opened settings now kept))
+pub opened_covered : (held : Held) (settings : Settings) (now kept : ℕ) → ((n : ℕ) → MayHold held n → kept ≤ n) → IsCovered held (with_queues (opened_node settings now kept))
 opened_covered held settings now kept holds = record {
   saved = holds;
   own = empty_most kept settings.me settings.list.members;

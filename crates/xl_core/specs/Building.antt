@@ -53,8 +53,8 @@ knowing_at r h None =
     if nat_le r.limit (length r.headers) then None
     else Some (record { ledgers = with_header r h; place = length r.headers })
 
-abbrev pub knowing : Ledgers → Header → Option Knowing
-knowing r h = knowing_at r h (place_of r.headers (header_id h))
+abbrev pub knowing_of : Ledgers → Header → Option Knowing
+knowing_of r h = knowing_at r h (place_of r.headers (header_id h))
 
 -- how a built ledger was validated
 abbrev pub how_issued : Option Refusal → Option Validation → Issued

@@ -16,7 +16,7 @@ use Rattle.xl_core.specs.Greetings.{none_greeted, greeting_of, greeting_at, with
 use Rattle.xl_core.specs.Items.{frames_for}
 use Rattle.xl_core.specs.Node as nodes
 use Rattle.xl_core.specs.Node.{Node, Event, Reply, Save, happens, asks}
-use Rattle.xl_core.specs.Queues.{none_waiting, with_items, waiting_at, at_number, after_taking, fitting, that_fit, frames_in, with_report, without}
+use Rattle.xl_core.specs.Queues.{none_waiting, with_items, waiting_at, at_number, after_taking, count_fitting, that_fit, frames_in, with_report, without}
 
 pub record Core : Type 0 where
   pub node : Node
@@ -55,8 +55,8 @@ node_event (Relist now list) = Some (nodes.Relist now list)
 node_event other = None
 
 -- what came of it at the node: its items wait for every number, and what it reports to be taken
-abbrev pub stepped : Core → Reply → CoreReply
-stepped core reply = record {
+abbrev pub after_reply : Core → Reply → CoreReply
+after_reply core reply = record {
   core = record {
     node = reply.node;
     waiting = with_items core.waiting reply.items;
@@ -70,8 +70,8 @@ stepped core reply = record {
 }
 
 -- the core is left so, and answers this; nothing is issued or reported
-abbrev pub answering : Core → Answer → CoreReply
-answering core answer = record { core = core; answer = answer; issued = None; report = None }
+abbrev pub core_reply : Core → Answer → CoreReply
+core_reply core answer = record { core = core; answer = answer; issued = None; report = None }
 
 -- the frames for a number: of the headers with which it is greeted, and then of what waits for it
 abbrev pub greeted_frames : Core → ℕ → List (Option (List ℕ))
@@ -97,32 +97,32 @@ abbrev pub given_for : Core → ℕ → ℕ → List (Option (List ℕ))
 given_for core to room = that_fit (all_frames core to) room
 
 -- the core without that front
-abbrev pub drained : Core → ℕ → ℕ → Core
-drained core to room = record core {
-  greetings = further_at core.greetings to (fitting (greeted_frames core to) room);
+abbrev pub after_drain : Core → ℕ → ℕ → Core
+after_drain core to room = record core {
+  greetings = further_at core.greetings to (count_fitting (greeted_frames core to) room);
   waiting = at_number core.waiting to (after_taking (drop (length (greeted_frames core to)) (given_for core to room)));
 }
 
 -- a member is greeted anew
-abbrev pub greeted : Core → ℕ → Core
-greeted core member = record core {
+abbrev pub after_greeting : Core → ℕ → Core
+after_greeting core member = record core {
   greetings = with_greeting core.greetings member (Some (greeting_of core.node));
 }
 
 -- what came of an event, whose save was answered so
 abbrev pub core_happens : Core → CoreEvent → Save → CoreReply
-core_happens core (Issue now seq id full) save = stepped core (happens core.node (nodes.Issue now seq id full) save)
-core_happens core (Frame now bytes) save = stepped core (happens core.node (nodes.Frame now bytes) save)
-core_happens core (Timer now) save = stepped core (happens core.node (nodes.Timer now) save)
-core_happens core (Submit now tx) save = stepped core (happens core.node (nodes.Submit now tx) save)
-core_happens core (Greet member) save = answering (greeted core member) Done
+core_happens core (Issue now seq id full) save = after_reply core (happens core.node (nodes.Issue now seq id full) save)
+core_happens core (Frame now bytes) save = after_reply core (happens core.node (nodes.Frame now bytes) save)
+core_happens core (Timer now) save = after_reply core (happens core.node (nodes.Timer now) save)
+core_happens core (Submit now tx) save = after_reply core (happens core.node (nodes.Submit now tx) save)
+core_happens core (Greet member) save = core_reply (after_greeting core member) Done
 core_happens core (Drain member room) save =
-    answering (drained core member room) (Gave member (frames_in (given_for core member room)))
+    core_reply (after_drain core member room) (Gave member (frames_in (given_for core member room)))
 core_happens core (Reports room) save =
-    answering (record core { untaken = without room core.untaken }) (Handed (take room core.untaken.items))
-core_happens core Stop save = answering (record core { stopped = true }) Done
-core_happens core Stopped save = answering core (Told core.stopped)
-core_happens core (Relist now list) save = stepped core (happens core.node (nodes.Relist now list) save)
+    core_reply (record core { untaken = without room core.untaken }) (Handed (take room core.untaken.items))
+core_happens core Stop save = core_reply (record core { stopped = true }) Done
+core_happens core Stopped save = core_reply core (Told core.stopped)
+core_happens core (Relist now list) save = after_reply core (happens core.node (nodes.Relist now list) save)
 
 -- the save that an event asks
 abbrev pub core_asks : Core → CoreEvent → Option ℕ

@@ -18,7 +18,7 @@ use Rattle.xl_core.specs.declared.report.Report.{Report}
 use Rattle.xl_core.specs.declared.settings.Settings.{Settings}
 use Rattle.xl_core.specs.Answers.{given_in, handed_in}
 use Rattle.xl_core.specs.Core.{Core, core_happens, core_asks, with_queues}
-use Rattle.xl_core.specs.Node.{Save, is_kept, opened}
+use Rattle.xl_core.specs.Node.{Save, is_kept, opened_node}
 use Rattle.xl_core.specs.Queues.{most_untaken}
 use Rattle.xl_core.specs.Rest.{IsKeyed}
 
@@ -67,8 +67,8 @@ abbrev pub SaidIsSaved : Type 0
 SaidIsSaved =
     (settings : Settings) (now kept : ℕ) (held : Held) (life : List CoreHappening) (n : ℕ) →
     IsKeyed settings.me settings.list.members settings.keys → ((k : ℕ) → MayHold held k → kept ≤ k) →
-    MayHold (held_after held (with_queues (opened settings now kept)) life) n →
-    All (IsFrameCovered n) (given_over (with_queues (opened settings now kept)) life)
+    MayHold (held_after held (with_queues (opened_node settings now kept)) life) n →
+    All (IsFrameCovered n) (given_over (with_queues (opened_node settings now kept)) life)
 
 -- every report that arose in them
 abbrev pub arisen_over : Core → List CoreHappening → List Report
@@ -87,7 +87,7 @@ handed_over core (h ∷ hs) =
 abbrev pub ReportsAreHandedOut : Type 0
 ReportsAreHandedOut =
     (settings : Settings) (now kept : ℕ) (life : List CoreHappening) →
-    let core = with_queues (opened settings now kept) in
+    let core = with_queues (opened_node settings now kept) in
     IsAccounted (arisen_over core life) (handed_over core life) (core_after core life).untaken
 
 -- never did more than this many wait, of the reports that arose in these happenings
@@ -98,7 +98,7 @@ NeverMore n core life = (k : ℕ) → length (arisen_over core (take k life)) �
 abbrev pub NoneIsLost : Type 0
 NoneIsLost =
     (settings : Settings) (now kept : ℕ) (life : List CoreHappening) →
-    let core = with_queues (opened settings now kept) in
+    let core = with_queues (opened_node settings now kept) in
     let after = core_after core life in
     NeverMore most_untaken core life →
     (arisen_over core life ≡ handed_over core life ++ after.untaken.items) × (after.untaken.lost ≡ 0)

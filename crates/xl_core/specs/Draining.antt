@@ -16,7 +16,7 @@ use Rattle.xl_core.specs.Items.{frames_for}
 use Rattle.xl_core.specs.Node.{Node}
 use Rattle.xl_core.specs.Sending.{keys_for}
 use Rattle.xl_core.specs.declared.sending.TagPlace.{TagPlace}
-use Rattle.xl_core.specs.Queues.{at_number, after_taking, fitting, that_fit, frames_in, joined}
+use Rattle.xl_core.specs.Queues.{at_number, after_taking, count_fitting, that_fit, frames_in, stream_of}
 
 -- what became of a frame at a place of a room, or of what has none
 abbrev pub IsPut : Option (List ℕ) → ℕ → List ℕ → List ℕ → Put → Type 0
@@ -44,7 +44,7 @@ pub record TakesOne (frames : List (Option (List ℕ))) (waiting after : List (B
 -- nothing waits for a number, or the room is too short for the first frame from a place on
 abbrev pub TakesNone : Node → ℕ → ℕ → List (Backlog Item) → List (Backlog Item) → List ℕ → List ℕ → Type 0
 TakesNone n number at waiting after old new =
-    (fitting (frames_for n waiting number) (length old - at) ≡ 0) × (after ≡ waiting) × (new ≡ old)
+    (count_fitting (frames_for n waiting number) (length old - at) ≡ 0) × (after ≡ waiting) × (new ≡ old)
 
 -- the frame of the oldest item, if it has one, was put at a place, and this is where the next one goes
 abbrev pub TakesFirst : Node → ℕ → ℕ → Option ℕ → List (Backlog Item) → List (Backlog Item) → List ℕ → List ℕ → Type 0
@@ -72,7 +72,7 @@ IsNext n g result =
 
 -- none of these frames fits into a room from a place on
 abbrev pub PutsNone : List (Option (List ℕ)) → ℕ → List ℕ → List ℕ → Type 0
-PutsNone frames at old new = (fitting frames (length old - at) ≡ 0) × (new ≡ old)
+PutsNone frames at old new = (count_fitting frames (length old - at) ≡ 0) × (new ≡ old)
 
 -- the next header was put at a place, and then one fewer is left
 pub record PutsNext (n : Node) (to : ℕ) (g : Greeting) (at next : ℕ) (old new : List ℕ) : Type 0 where
@@ -87,5 +87,5 @@ PutsOne n to g at result old new = (next : ℕ) → result ≡ Some next → Put
 
 -- as many of these frames as fit into a room were written to its front
 pub record Writes (frames : List (Option (List ℕ))) (written : ℕ) (old new : List ℕ) : Type 0 where
-  pub count : written ≡ length (joined (frames_in (that_fit frames (length old))))
-  pub room : new ≡ joined (frames_in (that_fit frames (length old))) ++ drop written old
+  pub count : written ≡ length (stream_of (frames_in (that_fit frames (length old))))
+  pub room : new ≡ stream_of (frames_in (that_fit frames (length old))) ++ drop written old

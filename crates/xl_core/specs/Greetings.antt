@@ -8,7 +8,7 @@ use Rattle.xl_base.specs.Members.{most_members}
 use Rattle.xl_ledger.specs.declared.header.Header.{Header}
 use Rattle.xl_ledger.specs.Chains.{chain, id_at, place_of}
 use Rattle.xl_core.specs.declared.the_core.greeting.Greeting.{Greeting}
-use Rattle.xl_core.specs.Items.{framed, header_body_at}
+use Rattle.xl_core.specs.Items.{frame_for, header_body_at}
 use Rattle.xl_core.specs.Node.{Node}
 
 -- none of the numbers from 1 to 64 is greeted
@@ -40,7 +40,7 @@ yet_to_hand ledgers g = drop g.next (chain_to ledgers g.target)
 -- the frames of these headers for a member
 abbrev pub greeting_frames : Node → Option Greeting → ℕ → List (Option (List ℕ))
 greeting_frames n None to = []
-greeting_frames n (Some g) to = map (λ ledger. framed n to (header_body_at n ledger)) (yet_to_hand n.ledgers.headers g)
+greeting_frames n (Some g) to = map (λ ledger. frame_for n to (header_body_at n ledger)) (yet_to_hand n.ledgers.headers g)
 
 -- a greeting once this many more headers were handed out
 abbrev pub further : ℕ → Greeting → Greeting

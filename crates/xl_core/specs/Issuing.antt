@@ -7,7 +7,7 @@ use Rattle.xl_wire.specs.declared.validation.Validation.{Validation}
 use Rattle.xl_core.specs.declared.report.Report.{Report}
 use Rattle.xl_core.specs.declared.refusal.Refusal.TheVariants.{NotAfter, IssuingOff, KeepFault}
 use Rattle.xl_core.specs.Answers.{Done}
-use Rattle.xl_core.specs.State.{Node, Reply, second_of, refusing, reporting, with_taken}
+use Rattle.xl_core.specs.State.{Node, Reply, second_of, refusing_reply, reporting_reply, with_taken}
 
 -- the node that has saved the validation's sequence: only then its own row takes it
 abbrev pub with_saved : Node → ℕ → Validation → Node
@@ -33,12 +33,12 @@ asks_for n seq = if nat_lt n.kept seq then unless_failed n.failed_save seq else 
 
 -- after a save that failed the node issues nothing more
 abbrev pub issued_reply : Node → ℕ → Save → Validation → Reply
-issued_reply n now Kept v = reporting (with_saved n now v) Done (Some v)
-issued_reply n now (Failed count) v = refusing (record n { failed_save = Some v.seq }) (KeepFault count)
+issued_reply n now Kept v = reporting_reply (with_saved n now v) Done (Some v)
+issued_reply n now (Failed count) v = refusing_reply (record n { failed_save = Some v.seq }) (KeepFault count)
 
 abbrev pub issued_unless_off : Node → Option ℕ → Save → Validation → Reply
 issued_unless_off n None save v = issued_reply n (second_of n) save v
-issued_unless_off n (Some failed) save v = refusing n (IssuingOff failed)
+issued_unless_off n (Some failed) save v = refusing_reply n (IssuingOff failed)
 
 -- the ledger that was last reported, or no ledger's id
 abbrev pub last_id : Option Report → LedgerId
@@ -64,4 +64,4 @@ own_issued_reply n seq id full = issued_reply n (second_of n) Kept (own_validati
 abbrev pub issuing_reply : Node → ℕ → LedgerId → Bool → Save → Reply
 issuing_reply n seq id full save =
     if nat_lt n.kept seq then issued_unless_off n n.failed_save save (own_validation n seq id full)
-    else refusing n (NotAfter n.kept)
+    else refusing_reply n (NotAfter n.kept)

@@ -13,7 +13,7 @@ use Rattle.xl_wire.specs.declared.body.Body.{Body}
 use Rattle.xl_core.specs.declared.item.Item.{Item}
 use Rattle.xl_core.specs.declared.item.Item.TheVariants.{Validation as ValidationItem, Tx, TxSet, Proposal, Header}
 use Rattle.xl_core.specs.Node.{Node}
-use Rattle.xl_core.specs.Queues.{waiting_at, that_fit, joined, frames_in, at_number, after_taking}
+use Rattle.xl_core.specs.Queues.{waiting_at, that_fit, stream_of, frames_in, at_number, after_taking}
 use Rattle.xl_queues.specs.Queues.{Backlog}
 use Rattle.xl_tags.specs.Rings.{key_of}
 use Rattle.xl_core.specs.Sending.{sealed_bytes, has_spelling}
@@ -39,12 +39,12 @@ body_in n (Proposal p) = Some (bodies.Proposal p)
 body_in n (Header id) = header_body n id
 
 -- the frame in which it sends a body to a peer, or None for what no frame can hold
-abbrev pub framed : Node → ℕ → Body → Option (List ℕ)
-framed n to body = if has_spelling n.me to body then Some (sealed_bytes n.keys n.me to body) else None
+abbrev pub frame_for : Node → ℕ → Body → Option (List ℕ)
+frame_for n to body = if has_spelling n.me to body then Some (sealed_bytes n.keys n.me to body) else None
 
 -- the frame in which it sends an item, or None if it passes the item over
 abbrev pub frame_of : Node → ℕ → Item → Option (List ℕ)
-frame_of n to item = option_and_then (framed n to) (body_in n item)
+frame_of n to item = option_and_then (frame_for n to) (body_in n item)
 
 -- of all that waits for a number; there is None for what is passed over
 abbrev pub frames_for : Node → List (Backlog Item) → ℕ → List (Option (List ℕ))
@@ -60,7 +60,7 @@ taken_for n waiting to room = that_fit (frames_for n waiting to) room
 
 -- the bytes that a drain gives
 abbrev pub drained_bytes : Node → List (Backlog Item) → ℕ → ℕ → List ℕ
-drained_bytes n waiting to room = joined (frames_in (taken_for n waiting to room))
+drained_bytes n waiting to room = stream_of (frames_in (taken_for n waiting to room))
 
 -- what waits after a drain
 abbrev pub drained_for : Node → List (Backlog Item) → ℕ → ℕ → List (Backlog Item)

@@ -27,9 +27,9 @@ abbrev pub is_news : LastReport → ℕ → LedgerId → Bool
 is_news last seq id = is_above last.report seq || (last.relisted && not (is_last last.report seq id))
 
 -- once a report has arisen, or none
-abbrev pub later : LastReport → Option Report → LastReport
-later last None = last
-later last (Some report) = record { report = Some report; relisted = false }
+abbrev pub last_after : LastReport → Option Report → LastReport
+last_after last None = last
+last_after last (Some report) = record { report = Some report; relisted = false }
 
 -- once the list was set
 abbrev pub over_another_list : LastReport → LastReport

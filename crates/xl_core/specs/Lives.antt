@@ -9,7 +9,7 @@ use Rattle.xl_lists.specs.Lists.{IsValid}
 use Rattle.xl_validations.specs.Rows.{count_full}
 use Rattle.xl_core.specs.declared.report.Report.{Report}
 use Rattle.xl_core.specs.declared.settings.Settings.{Settings}
-use Rattle.xl_core.specs.Node.{Node, Event, Relist, Save, opened, happens, key_refusal}
+use Rattle.xl_core.specs.Node.{Node, Event, Relist, Save, opened_node, happens, key_refusal}
 
 -- an event, and how its save was answered
 pub record Happening : Type 0 where
@@ -74,7 +74,7 @@ abbrev pub ReportsArise : Type 0
 ReportsArise =
     (settings : Settings) (now kept : ℕ) (life : List Happening) (next : Happening) (r : Report) →
     IsValid settings.list → All IsFit life → IsFit next →
-    let first = opened settings now kept in
+    let first = opened_node settings now kept in
     let n = node_after first life in
     let reply = happens n next.event next.save in
     let last = last_of None (reports_in first life) in
@@ -86,6 +86,6 @@ ReportsArise =
 abbrev pub ReportsRise : Type 0
 ReportsRise =
     (settings : Settings) (now kept : ℕ) (life : List Happening) (first : Happening) (more : List Happening) →
-    let n = node_after (opened settings now kept) life in
+    let n = node_after (opened_node settings now kept) life in
     SetNoList (happens n first.event first.save).node more →
     IsStrictlyIncreasing (map (λ r. r.seq) (reports_in n (first ∷ more)))

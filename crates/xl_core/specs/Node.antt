@@ -13,10 +13,10 @@ use Rattle.xl_ledger.specs.declared.header.Header.{Header}
 use Rattle.xl_ledger.specs.Chains.{seq_at, id_at}
 use Rattle.xl_ledger.specs.Votes.{preferred_of}
 use Rattle.xl_core.specs.declared.report.Report.{Report}
-pub use Rattle.xl_core.specs.State.{Node, Reply, opened, settings_of, second_of, at_moment, arises_in, arises, report_of, report_if, arisen_in, arisen, replying, refusing, reply_unless, items_of, reporting, take, with_taken, with_own}
-pub use Rattle.xl_core.specs.Taking.{refusal_at, with_tx, tx_refusal, placing, taken_as, placed_as, speech_refusal, taken_reply, speech_reply, frame_refusal, bytes_reply, submitted_reply, key_refusal, with_list, relisted_reply, HearsOthers}
+pub use Rattle.xl_core.specs.State.{Node, Reply, opened_node, settings_of, second_of, at_moment, arises_in, arises, report_of, report_if, arisen_in, new_report, reply_with, refusing_reply, reply_unless, items_of, reporting_reply, take, with_taken, with_own}
+pub use Rattle.xl_core.specs.Taking.{refusal_at, with_tx, tx_refusal, proposal_answer, taken_as, placed_as, speech_refusal, taken_reply, speech_reply, frame_refusal, bytes_reply, submitted_reply, key_refusal, with_list, relisted_reply, HearsOthers}
 pub use Rattle.xl_core.specs.Issuing.{with_saved, Save, is_kept, unless_failed, asks_for, issued_reply, issued_unless_off, last_id, told_by, own_validation, IsOff, own_issued_reply, issuing_reply}
-pub use Rattle.xl_core.specs.Timer.{TimerOutcome, Quiet, Ending, chosen, starting, switch_outcome, seen, built, accepting, built_outcome, kind_outcome, heartbeat_outcome, timer_outcome, validates, validating_built, after_built, built_reply, timer_reply, asks_of}
+pub use Rattle.xl_core.specs.Timer.{TimerOutcome, Quiet, Ending, chosen, with_new_round, switch_outcome, seen_of, next_header, with_accepted, built_outcome, kind_outcome, heartbeat_outcome, timer_outcome, validates, validating_built, after_built, built_reply, timer_reply, asks_of}
 
 -- What may happen at a node, each at a moment in milliseconds.
 pub data Event : Type 0 where

@@ -35,23 +35,23 @@ waiting_at waiting (suc place) = queue_of waiting place
 
 -- how many of the oldest items a room takes: their frames go into it one behind the other, and what is passed over
 -- needs no place
-abbrev pub fitting : List (Option (List ℕ)) → ℕ → ℕ
-fitting [] room = 0
-fitting (None ∷ frames) room = suc (fitting frames room)
-fitting (Some frame ∷ frames) room =
-    if nat_le (length frame) room then suc (fitting frames (room - length frame)) else 0
+abbrev pub count_fitting : List (Option (List ℕ)) → ℕ → ℕ
+count_fitting [] room = 0
+count_fitting (None ∷ frames) room = suc (count_fitting frames room)
+count_fitting (Some frame ∷ frames) room =
+    if nat_le (length frame) room then suc (count_fitting frames (room - length frame)) else 0
 
 -- the longest front of these frames that fits into a room
 abbrev pub that_fit : List (Option (List ℕ)) → ℕ → List (Option (List ℕ))
-that_fit frames room = take (fitting frames room) frames
+that_fit frames room = take (count_fitting frames room) frames
 
 -- the frames of these items
 abbrev pub frames_in : List (Option (List ℕ)) → List (List ℕ)
 frames_in frames = filter_map (λ frame. frame) frames
 
 -- one behind the other
-abbrev pub joined : List (List ℕ) → List ℕ
-joined frames = flat_map (λ frame. frame) frames
+abbrev pub stream_of : List (List ℕ) → List ℕ
+stream_of frames = flat_map (λ frame. frame) frames
 
 -- the count once this many more were lost
 abbrev pub lost_more : ℕ → ℕ → ℕ

@@ -22,9 +22,9 @@ use Rattle.xl_core.specs.declared.event.CoreEvent.TheVariants.{Drain, Reports}
 use Rattle.xl_core.specs.Core.{Core, CoreReply, core_happens}
 use Rattle.xl_core.specs.declared.sending.TagPlace.{TagPlace}
 use Rattle.xl_core.specs.Draining.{node_for}
-use Rattle.xl_core.specs.Queues.{joined}
-use Rattle.xl_core.specs.Sending.{blanked}
-use Rattle.xl_core.specs.Node.{Node, Reply, Save, replying, refusing, items_of, is_kept}
+use Rattle.xl_core.specs.Queues.{stream_of}
+use Rattle.xl_core.specs.Sending.{without_tag}
+use Rattle.xl_core.specs.Node.{Node, Reply, Save, reply_with, refusing_reply, items_of, is_kept}
 use Rattle.xl_core.specs.Issuing.Save.{Kept, Failed}
 
 -- what a call that issues answers, with the node that it leaves
@@ -36,17 +36,17 @@ issue_reply (Ok done) n = record {
   issued = Some done.validation;
   report = done.report;
 }
-issue_reply (Err why) n = refusing n why
+issue_reply (Err why) n = refusing_reply n why
 
 -- what a call that hands in a transaction answers
 abbrev pub submit_reply : {X : Type 0} → TxId → Result X Refusal → Node → Reply
-submit_reply tx (Ok _) n = replying n Done (Tx tx ∷ [])
-submit_reply tx (Err why) n = refusing n why
+submit_reply tx (Ok _) n = reply_with n Done (Tx tx ∷ [])
+submit_reply tx (Err why) n = refusing_reply n why
 
 -- what a call that sets a list answers, with what it reports
 abbrev pub list_reply : Result (Option Report) Refusal → Node → Reply
 list_reply (Ok report) n = record { node = n; answer = Done; items = []; issued = None; report = report }
-list_reply (Err why) n = refusing n why
+list_reply (Err why) n = refusing_reply n why
 
 -- what a call that hands in bytes answers
 abbrev pub hear_reply : Result Heard Refusal → Node → Reply
@@ -57,7 +57,7 @@ hear_reply (Ok heard) n = record {
   issued = None;
   report = heard.report;
 }
-hear_reply (Err why) n = refusing n why
+hear_reply (Err why) n = refusing_reply n why
 
 -- a set of this id was taken
 abbrev pub heard_set : SetId → Heard
@@ -91,8 +91,8 @@ drain_reply core member room = core_happens core (Drain member (length room)) Ke
 -- what a drain leaves: the core, and a room that begins with the frames that it gave
 pub record Drains (before : Core) (member : ℕ) (after : Core) (written : ℕ) (old new : List ℕ) : Type 0 where
   pub core : after ≡ (drain_reply before member old).core
-  pub count : written ≡ length (joined (given_in (drain_reply before member old).answer))
-  pub room : new ≡ joined (given_in (drain_reply before member old).answer) ++ drop written old
+  pub count : written ≡ length (stream_of (given_in (drain_reply before member old).answer))
+  pub room : new ≡ stream_of (given_in (drain_reply before member old).answer) ++ drop written old
 
 -- a core whose node writes its frames so
 abbrev pub core_for : TagPlace → Core → Core
@@ -102,8 +102,8 @@ core_for tags core = record core { node = node_for tags core.node }
 -- tag cleared
 pub record DrainsBlank (before : Core) (member : ℕ) (after : Core) (written : ℕ) (old new : List ℕ) : Type 0 where
   pub core : after ≡ (drain_reply before member old).core
-  pub count : written ≡ length (joined (map blanked (given_in (drain_reply before member old).answer)))
-  pub room : new ≡ joined (map blanked (given_in (drain_reply before member old).answer)) ++ drop written old
+  pub count : written ≡ length (stream_of (map without_tag (given_in (drain_reply before member old).answer)))
+  pub room : new ≡ stream_of (map without_tag (given_in (drain_reply before member old).answer)) ++ drop written old
 
 -- what came of handing out into a room of that length
 abbrev pub reports_reply : Core → List Report → CoreReply

@@ -44,8 +44,8 @@ abbrev pub has_spelling : ℕ → ℕ → Body → Bool
 has_spelling from to body = nat_lt from (2 ^ 32) && nat_lt to (2 ^ 32) && fits body
 
 -- a frame whose tag is cleared
-abbrev pub blanked : List ℕ → List ℕ
-blanked frame = before_tag frame ++ replicate 32 0
+abbrev pub without_tag : List ℕ → List ℕ
+without_tag frame = before_tag frame ++ replicate 32 0
 
 -- the keys by which frames are written: none if the place of the tag stays blank
 abbrev pub keys_in : TagPlace → List (Option (List ℕ)) → List (Option (List ℕ))

@@ -12,7 +12,7 @@ use Rattle.xl_wire.specs.declared.validation.Validation.{Validation}
 use Rattle.xl_validations.specs.declared.row.Row.{Row}
 use Rattle.xl_validations.specs.Rows.{refusal, with_validation, at_member, count_full, empty_row, row_at}
 use Rattle.xl_ledger.specs.Registries.{Ledgers, only_root}
-use Rattle.xl_rounds.specs.Rounds.{Round, opened as opened_round}
+use Rattle.xl_rounds.specs.Rounds.{Round, first_round as opened_round}
 use Rattle.xl_core.specs.declared.last.LastReport.{LastReport}
 use Rattle.xl_core.specs.declared.report.Report.{Report}
 use Rattle.xl_core.specs.declared.settings.Settings.{Settings}
@@ -21,7 +21,7 @@ use Rattle.xl_core.specs.declared.item.Item.{Item}
 use Rattle.xl_core.specs.declared.item.Item.TheVariants.{Validation as ValidationItem}
 use Rattle.xl_core.specs.Answers.{Answer, Refused}
 use Rattle.xl_core.specs.Building.{usual_mode}
-use Rattle.xl_core.specs.Lasts.{none_reported, is_news, later}
+use Rattle.xl_core.specs.Lasts.{none_reported, is_news, last_after}
 
 pub record Node : Type 0 where
   pub me : ℕ
@@ -53,19 +53,23 @@ pub record Reply : Type 0 where
   pub issued : Option Validation
   pub report : Option Report
 
+-- the least moment of a node, in milliseconds: a whole second
+abbrev pub least_time : ℕ
+least_time = 1000
+
 -- a node opened with its settings, at a moment, and with the number that its keeper holds; its first round is on
 -- the root
-abbrev pub opened : Settings → ℕ → ℕ → Node
-opened s now kept = record {
+abbrev pub opened_node : Settings → ℕ → ℕ → Node
+opened_node s now kept = record {
   me = s.me;
   list = s.list;
   keys = s.keys;
   validating = s.validating;
   speak = s.speak;
-  time = max 1000 now;
+  time = max least_time now;
   ledgers = only_root s.limit;
   rows = map empty_row s.list.members;
-  round = opened_round (only_root s.limit).headers 0 (usual_mode s.validating) (max 1000 now);
+  round = opened_round (only_root s.limit).headers 0 (usual_mode s.validating) (max least_time now);
   kept = kept;
   failed_save = None;
   last = none_reported;
@@ -110,20 +114,20 @@ arisen_in quorum rows last =
     option_map report_of (find (arises_in quorum rows last) (filter_map (λ row. row.current) rows))
 
 -- what a node's rows give to report
-abbrev pub arisen : Node → Option Report
-arisen n = arisen_in n.list.quorum n.rows n.last
+abbrev pub new_report : Node → Option Report
+new_report n = arisen_in n.list.quorum n.rows n.last
 
 -- it answers this, and these items wait for every peer; nothing is issued or reported
-abbrev pub replying : Node → Answer → List Item → Reply
-replying n answer items = record { node = n; answer = answer; items = items; issued = None; report = None }
+abbrev pub reply_with : Node → Answer → List Item → Reply
+reply_with n answer items = record { node = n; answer = answer; items = items; issued = None; report = None }
 
-abbrev pub refusing : Node → Refusal → Reply
-refusing n why = replying n (Refused why) []
+abbrev pub refusing_reply : Node → Refusal → Reply
+refusing_reply n why = reply_with n (Refused why) []
 
 -- the refusal, if there is a cause; else this reply
 abbrev pub reply_unless : Node → Option Refusal → Reply → Reply
 reply_unless n None reply = reply
-reply_unless n (Some why) reply = refusing n why
+reply_unless n (Some why) reply = refusing_reply n why
 
 -- what is issued waits for every peer
 abbrev pub items_of : Option Validation → List Item
@@ -131,13 +135,13 @@ items_of None = []
 items_of (Some v) = ValidationItem v ∷ []
 
 -- the rows report what arises in them
-abbrev pub reporting : Node → Answer → Option Validation → Reply
-reporting n answer issued = record {
-  node = record n { last = later n.last (arisen n) };
+abbrev pub reporting_reply : Node → Answer → Option Validation → Reply
+reporting_reply n answer issued = record {
+  node = record n { last = last_after n.last (new_report n) };
   answer = answer;
   items = items_of issued;
   issued = issued;
-  report = arisen n;
+  report = new_report n;
 }
 
 -- the sender's row takes the validation, unless it refuses it

@@ -21,7 +21,7 @@ use Rattle.xl_rounds.specs.declared.refusal.RoundRefusal.{RoundRefusal}
 use Rattle.xl_rounds.specs.Rounds.{with_pending, hold}
 use Rattle.xl_rounds.specs.Pending.{submit_refusal}
 use Rattle.xl_rounds.specs.Proposals.{answer, with_answer}
-use Rattle.xl_rounds.specs.Relisting.{relisted as relisted_round}
+use Rattle.xl_rounds.specs.Relisting.{relisted_round}
 use Rattle.xl_core.specs.declared.refusal.Refusal.{Refusal}
 use Rattle.xl_core.specs.declared.refusal.Refusal.TheVariants.{NoKey, Header as HeaderRefused}
 use Rattle.xl_core.specs.declared.hearing.Spoken.{Spoken}
@@ -36,7 +36,7 @@ use Rattle.xl_core.specs.Answers.{Answer, Refused, Took, Done}
 use Rattle.xl_core.specs.Hearing.{spoken_in, hearing_refusal, said_in}
 use Rattle.xl_core.specs.Lasts.{over_another_list}
 use Rattle.xl_core.specs.Refusals.{refusal_from, round_from}
-use Rattle.xl_core.specs.State.{Node, Reply, second_of, replying, reply_unless, reporting, with_taken}
+use Rattle.xl_core.specs.State.{Node, Reply, second_of, reply_with, reply_unless, reporting_reply, with_taken}
 
 -- why the row of a number doesn't take the validation
 abbrev pub refusal_at : Node → ℕ → ℕ → Validation → Option ValRefusal
@@ -50,8 +50,8 @@ abbrev pub tx_refusal : Node → TxId → Option Refusal
 tx_refusal n tx = option_map round_from (submit_refusal n.round.pending tx)
 
 -- how the round answers a member's proposal
-abbrev pub placing : Node → ℕ → Proposal → Result Placed RoundRefusal
-placing n from p = answer n.ledgers.headers n.round from p (second_of n)
+abbrev pub proposal_answer : Node → ℕ → Proposal → Result Placed RoundRefusal
+proposal_answer n from p = answer n.ledgers.headers n.round from p (second_of n)
 
 -- what was taken of a proposal
 abbrev pub taken_as : Placed → Taken
@@ -67,7 +67,7 @@ placed_as (Err why) = Refused (round_from why)
 abbrev pub speech_refusal : Node → ℕ → Speech → Option Refusal
 speech_refusal n from (speech.Validation v) = option_map refusal_from (refusal_at n (second_of n) from v)
 speech_refusal n from (speech.Header h) = option_map HeaderRefused (add_refusal n.ledgers h)
-speech_refusal n from (speech.Proposal p) = option_map round_from (result_err (placing n from p))
+speech_refusal n from (speech.Proposal p) = option_map round_from (result_err (proposal_answer n from p))
 speech_refusal n from (speech.TxSet ids) = None
 speech_refusal n from (speech.Tx tx) = tx_refusal n tx
 
@@ -75,7 +75,7 @@ speech_refusal n from (speech.Tx tx) = tx_refusal n tx
 -- Validations that waited for a header are votes from then on; a set is the one that the member holds; nothing is sent
 -- on
 abbrev pub taken_reply : Node → ℕ → Speech → Reply
-taken_reply n from (speech.Validation v) = reporting (with_taken n (second_of n) from v) (Took TakenValidation) None
+taken_reply n from (speech.Validation v) = reporting_reply (with_taken n (second_of n) from v) (Took TakenValidation) None
 taken_reply n from (speech.Header h) = record {
   node = record n { ledgers = with_header n.ledgers h };
   answer = Took (TakenHeader (header_id h));
@@ -84,11 +84,11 @@ taken_reply n from (speech.Header h) = record {
   report = None;
 }
 taken_reply n from (speech.Proposal p) =
-    let place = placing n from p in
-    replying (record n { round = with_answer place from p n.round }) (placed_as place) []
+    let place = proposal_answer n from p in
+    reply_with (record n { round = with_answer place from p n.round }) (placed_as place) []
 taken_reply n from (speech.TxSet ids) =
-    replying (record n { round = hold from ids n.round }) (Took (taken.Set (set_id_of ids))) []
-taken_reply n from (speech.Tx tx) = replying (with_tx n tx) (Took taken.Pending) []
+    reply_with (record n { round = hold from ids n.round }) (Took (taken.Set (set_id_of ids))) []
+taken_reply n from (speech.Tx tx) = reply_with (with_tx n tx) (Took taken.Pending) []
 
 -- what a member says is refused or taken
 abbrev pub speech_reply : Node → ℕ → Speech → Reply
@@ -107,7 +107,7 @@ bytes_reply n bytes =
 
 -- a transaction that is handed in is sent
 abbrev pub submitted_reply : Node → TxId → Reply
-submitted_reply n tx = reply_unless n (tx_refusal n tx) (replying (with_tx n tx) Done (TxItem tx ∷ []))
+submitted_reply n tx = reply_unless n (tx_refusal n tx) (reply_with (with_tx n tx) Done (TxItem tx ∷ []))
 
 -- a list isn't set if a member other than the node has no key; the lowest one is told
 abbrev pub key_refusal : Node → TrustedList → Option Refusal
@@ -124,7 +124,7 @@ with_list n list = record n {
 
 -- the list is set, and the rows report what arises in them under it, unless a key is missing
 abbrev pub relisted_reply : Node → TrustedList → Reply
-relisted_reply n list = reply_unless n (key_refusal n list) (reporting (with_list n list) Done None)
+relisted_reply n list = reply_unless n (key_refusal n list) (reporting_reply (with_list n list) Done None)
 
 -- whom it hears in bytes is another
 abbrev pub HearsOthers : Node → List ℕ → Type 0

@@ -18,10 +18,10 @@ use Rattle.xl_core.specs.declared.timer_part.TimerPart.{TimerPart}
 use Rattle.xl_core.specs.declared.timer_part.TimerPart.TheVariants as timer_part
 use Rattle.xl_core.specs.declared.timer_part.Built.{Built}
 use Rattle.xl_core.specs.Answers.{Beats, Done}
-use Rattle.xl_core.specs.Building.{knowing}
-use Rattle.xl_core.specs.Node.{Node, Reply, Save, TimerOutcome, Quiet, Ending, replying, refusing, validating_built, after_built, timer_reply, asks_of, is_kept}
+use Rattle.xl_core.specs.Building.{knowing_of}
+use Rattle.xl_core.specs.Node.{Node, Reply, Save, TimerOutcome, Quiet, Ending, reply_with, refusing_reply, validating_built, after_built, timer_reply, asks_of, is_kept}
 use Rattle.xl_core.specs.Issuing.Save.{Kept}
-use Rattle.xl_core.specs.Core.{Core, core_happens, stepped}
+use Rattle.xl_core.specs.Core.{Core, core_happens, after_reply}
 use Rattle.xl_core.specs.Replies.{Answers, issue_reply, save_of}
 
 -- what a timer came to, with the node that it left
@@ -45,7 +45,7 @@ IsTimerPart n (timer_part.Built b) = IsBuilt n b
 
 -- a header is known to a node, at this place, that knew it before or had room for it
 pub record IsKnown (before after : Node) (h : Header) (place : ℕ) : Type 0 where
-  pub knowing : knowing before.ledgers h ≡ Some (record { ledgers = after.ledgers; place = place })
+  pub knowing : knowing_of before.ledgers h ≡ Some (record { ledgers = after.ledgers; place = place })
   pub rest : after ≡ record before { ledgers = after.ledgers }
   pub within : place < length after.ledgers.headers
 
@@ -61,9 +61,9 @@ asks_in n b = asks_of (outcome_by (timer_part.Built b) n)
 
 -- what comes of validating a built ledger, or of staying silent
 abbrev pub validated_reply : Result (Option OwnValidation) Refusal → Node → Reply
-validated_reply (Ok None) n = replying n Done []
+validated_reply (Ok None) n = reply_with n Done []
 validated_reply (Ok (Some own)) n = issue_reply (Ok own) n
-validated_reply (Err why) n = refusing n why
+validated_reply (Err why) n = refusing_reply n why
 
 -- how the save was answered, as a timer tells it
 abbrev pub save_as : Issued → Save
@@ -91,4 +91,4 @@ Beaten core now told after = Answers (core_happens core (Timer now) (save_at tol
 -- so once a ledger was built
 abbrev pub Concludes : Core → Built → TimerAnswer → Core → Type 0
 Concludes core b told after =
-    Answers (stepped core (timer_reply (outcome_by (timer_part.Built b) core.node) (save_at told))) after (Beats told)
+    Answers (after_reply core (timer_reply (outcome_by (timer_part.Built b) core.node) (save_at told))) after (Beats told)

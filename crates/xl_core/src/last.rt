@@ -1,5 +1,5 @@
 ghost use Rattle.std.specs.Prelude.{◌≡◌};
-ghost use Rattle.xl_core.specs.Lasts.{is_above as is_above_of, is_last as is_last_of, is_news as is_news_of, later as later_of, over_another_list};
+ghost use Rattle.xl_core.specs.Lasts.{is_above as is_above_of, is_last as is_last_of, is_news as is_news_of, last_after as later_of, over_another_list};
 
 use crate::Report;
 use xl_base::{LedgerId, Seq};

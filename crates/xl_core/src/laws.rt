@@ -1,3 +1,9 @@
+ghost use Rattle.std.specs.Prelude.{◌≡◌};
+ghost use Rattle.xl_core.specs.declared.node.TheConstants.{LEAST_TIME};
+ghost use Rattle.xl_core.specs.declared.the_core.outgoing.TheConstants.{OUTGOING};
+ghost use Rattle.xl_core.specs.declared.the_core.untaken.TheConstants.{UNTAKEN};
+ghost use Rattle.xl_core.specs.Queues.{most_untaken, most_waiting};
+ghost use Rattle.xl_core.specs.State.{least_time};
 ghost use Rattle.xl_core.specs.Lives.{ReportsArise, ReportsRise};
 ghost use Rattle.xl_core.specs.CoreLives.{SaidIsSaved, ReportsAreHandedOut, NoneIsLost};
 
@@ -22,4 +28,11 @@ pub fn law_of_handed_reports()
     ensures handed { ReportsAreHandedOut }
     // A report is lost only if more than 1,024 waited.
     ensures none { NoneIsLost }
+{}
+
+/// The law of the constants, which has no code: each is the number that the definitions give.
+pub fn law_of_constants()
+    ensures outgoing { OUTGOING ≡ most_waiting }
+    ensures untaken { UNTAKEN ≡ most_untaken }
+    ensures time { LEAST_TIME ≡ least_time }
 {}

@@ -15,6 +15,17 @@
 //! by which it reads, opens and seals frames. Its one contract: each call leaves the core and answers as
 //! `core_happens` says of its event. So nothing is said before the keeper has saved its sequence. No call after `open`
 //! except `reopen` takes memory.
+//!
+//! ```
+//! let mut core = Core::open(alloc, settings, now, 0)?;
+//! core.timer(now, &mut keeper);
+//! let written = core.drain(peer, &mut room); // whole sealed frames, for a link to the peer
+//! // and at the peer, with each of them
+//! other.frame(now, &room[..length])?;
+//! if other.reports(&mut reports) == 1 {
+//!     assert_eq!(reports[0].seq, 1);
+//! }
+//! ```
 #![tactic(auto)]
 
 mod core_answer;
@@ -41,7 +52,7 @@ pub use event::CoreEvent;
 pub use hearing::{Speech, Spoken};
 pub use item::Item;
 pub use last::LastReport;
-pub use laws::{law_of_handed_reports, law_of_reports, law_of_saves};
+pub use laws::{law_of_constants, law_of_handed_reports, law_of_reports, law_of_saves};
 pub use node::Node;
 pub use refusal::Refusal;
 pub use report::{OwnValidation, Report};

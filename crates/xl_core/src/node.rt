@@ -3,7 +3,7 @@ ghost use Rattle.std.specs.Result.{result_err};
 ghost use Rattle.xl_base.specs.Moments.{greatest_millis};
 ghost use Rattle.xl_validations.specs.Rows.{current_of, heard_of, is_full_of};
 ghost use Rattle.xl_validations.specs.Votes.{votes_of};
-ghost use Rattle.xl_core.specs.Node.{Submit, opened, at_moment, happens, arises_in, preferred, report_if, settings_of, tx_refusal};
+ghost use Rattle.xl_core.specs.Node.{Submit, opened_node, at_moment, happens, arises_in, preferred, report_if, settings_of, tx_refusal};
 ghost use Rattle.xl_ledger.specs.Limits.{greatest_limit, least_limit};
 ghost use Rattle.xl_core.specs.Rest.{IsKeyed};
 ghost use Rattle.xl_core.specs.Replies.{submit_reply};
@@ -22,10 +22,12 @@ use xl_tags::Keys;
 use xl_validations::Table;
 use xl_wire::Validation;
 
+mod current;
 mod deliberating;
 mod greeting;
 mod hearing;
 mod issuing;
+mod reading;
 mod relisting;
 mod sending;
 mod timer;
@@ -114,7 +116,7 @@ impl<B: Branch + Drop> Node<B> {
         requires least { least_limit ≤ settings.limit }
         requires most { settings.limit ≤ greatest_limit }
         requires moment { now ≤ greatest_millis }
-        ensures { IfOk result (λ node. node ≡ opened settings now kept) }
+        ensures { IfOk result (λ node. node ≡ opened_node settings now kept) }
     {
         let Settings {
             me,
@@ -154,7 +156,7 @@ impl<B: Branch + Drop> Node<B> {
     /// Opens the node anew in its place, with the number that its keeper holds. An `Err` changes nothing.
     pub fn reopen(&mut self, alloc: Global, now: Millis, kept: Seq) -> Result<(), OutOfMemory>
         requires moment { now ≤ greatest_millis }
-        ensures opened { OnOk result (self.new ≡ opened (settings_of self.old) now kept) }
+        ensures opened { OnOk result (self.new ≡ opened_node (settings_of self.old) now kept) }
         ensures err { OnErr result (self.new ≡ self.old) }
     {
         let table = Table::open(alloc, &self.list, self.me)?;

@@ -8,7 +8,7 @@ ghost use Rattle.xl_core.specs.Sending.{keys_for, sealed_bytes, has_spelling};
 use crate::putting::{Put, put_frame};
 use xl_base::NodeNo;
 use xl_tags::{Keys, seal};
-use xl_wire::{Body, Frame, LONGEST_FRAME, encode};
+use xl_wire::{AROUND, Body, Frame, LONGEST_FRAME, encode};
 
 /// What is written where the tag of a frame goes.
 #[derive(Clone, Copy)]
@@ -35,7 +35,7 @@ pub fn put_body(
         at room.old room.new result }
     ensures spelled { IsTrue (has_spelling keys.now.me to body.entry) }
 {
-    let length = 46 + body.len();
+    let length = AROUND + body.len();
     if room.len() - at < length {
         return put_through(&mut [0; LONGEST_FRAME], keys, to, tags, body, at, room);
     }
@@ -60,7 +60,7 @@ fn put_through(
         at room.old room.new result }
     ensures spelled { IsTrue (has_spelling keys.now.me to body.entry) }
 {
-    let frame = &mut own[..46 + body.len()];
+    let frame = &mut own[..AROUND + body.len()];
     write_into(keys, to, tags, body, frame);
     put_frame(frame, at, room)
 }

@@ -1,12 +1,13 @@
-ghost use Rattle.std.specs.Prelude.{◌≡◌, ◌↔◌, ◌<◌, ◌≤◌, ℕ, IfOk, IsSome, OnOk, OnErr, Some, Err, None};
+ghost use Rattle.std.specs.Prelude.{◌≡◌, ◌≢◌, ◌↔◌, ◌<◌, ◌≤◌, ℕ, IfOk, IsSome, IsTrue, OnOk, OnErr, Some, Err, None};
 ghost use Rattle.std.specs.Result.{result_err};
 ghost use Rattle.xl_base.specs.Moments.{greatest_millis};
 ghost use Rattle.xl_ledger.specs.Limits.{greatest_limit, least_limit};
 ghost use Rattle.xl_io.specs.Keepers.{Held};
+ghost use Rattle.xl_lists.specs.Lists.{is_on};
 ghost use Rattle.xl_tags.specs.Rings.{key_of};
 ghost use Rattle.xl_core.specs.Answers.{Done, Told};
 ghost use Rattle.xl_core.specs.Building.{said_items};
-ghost use Rattle.xl_core.specs.Core.{with_queues, core_happens, core_asks};
+ghost use Rattle.xl_core.specs.Core.{with_queues, core_happens, core_asks, after_reply};
 ghost use Rattle.xl_core.specs.Marks.{StayMarks};
 ghost use Rattle.xl_core.specs.Queues.{with_items};
 ghost use Rattle.xl_core.specs.declared.event.CoreEvent.TheVariants.{Issue, Frame, Timer, Submit, Greet, Stop, Stopped, Relist};
@@ -15,7 +16,7 @@ ghost use Rattle.xl_core.specs.Keeping.{AsksSave, CountsFault, Holds, IsAsked, S
 ghost use Rattle.xl_core.specs.Replies.{Answers, Issues, taken_answer, done_answer, was_kept};
 ghost use Rattle.xl_core.specs.Rest.{IsKeyed};
 ghost use Rattle.xl_core.specs.Hearing.{Carries, bytes_as_sealed, bytes_with, speech_of};
-ghost use Rattle.xl_core.specs.Node.{opened, settings_of, at_moment, asks_for, frame_refusal, key_refusal, speech_refusal, tx_refusal, IsOff};
+ghost use Rattle.xl_core.specs.Node.{opened_node, settings_of, at_moment, asks_for, frame_refusal, key_refusal, speech_refusal, speech_reply, tx_refusal, IsOff};
 ghost use Rattle.xl_core.specs.TimerParts.{Beaten, Concludes, CountsBeatFault, IsBuilt, asks_in, beat_was_kept};
 ghost use Rattle.xl_core.specs.Issuing.Save.{Kept};
 ghost use Rattle.xl_wire.specs.declared.body.Body.{Body};
@@ -35,9 +36,11 @@ use xl_ledger::Branch;
 use xl_lists::List;
 use xl_queues::{Broadcast, Queue};
 use xl_rounds::Said;
+use xl_wire::Body;
 
 mod door;
 mod draining;
+mod first;
 mod greeting;
 mod marks;
 mod outgoing;
@@ -46,7 +49,7 @@ mod untaken;
 
 pub use greeting::Greeting;
 use greeting::{Greetings, greet};
-use marks::{noted, push};
+use marks::{forget, noted, push};
 pub use outgoing::OUTGOING;
 use outgoing::Waiting;
 pub use untaken::UNTAKEN;
@@ -108,7 +111,7 @@ impl<B: Branch + Drop> Core<B> {
         requires least { least_limit ≤ settings.limit }
         requires most { settings.limit ≤ greatest_limit }
         requires moment { now ≤ greatest_millis }
-        ensures opened { IfOk result (λ core. core ≡ with_queues (opened settings now kept)) }
+        ensures opened { IfOk result (λ core. core ≡ with_queues (opened_node settings now kept)) }
         // The keeper holds nothing below the number.
         ensures stop { (held : Held) → HoldsAtLeast kept held → IfOk result (λ core. IsCovered held core) }
     {
@@ -125,18 +128,17 @@ impl<B: Branch + Drop> Core<B> {
         })
     }
 
-    /// Opens the node anew in its place, with the number that its keeper holds and with nothing waiting. An `Err`
-    /// changes nothing.
+    /// Opens the node anew, with the number that its keeper holds and with nothing waiting. An `Err` changes nothing.
     pub fn reopen(&mut self, alloc: Global, now: Millis, kept: Seq) -> Result<(), OutOfMemory>
         requires moment { now ≤ greatest_millis }
-        ensures opened { OnOk result (self.new ≡ with_queues (opened (settings_of self.old.node) now kept)) }
+        ensures opened { OnOk result (self.new ≡ with_queues (opened_node (settings_of self.old.node) now kept)) }
         ensures err { OnErr result (self.new ≡ self.old) }
         // The keeper holds nothing below the number.
         ensures stop { (held : Held) → HoldsAtLeast kept held → OnOk result (IsCovered held self.new) }
     {
         self.node.reopen(alloc, now, kept)?;
+        forget(&mut self.greetings, self.marks);
         self.waiting.reset();
-        self.greetings = [None; MOST_MEMBERS];
         self.marks = 0;
         self.untaken.reset();
         self.stopped = false;
@@ -166,8 +168,7 @@ impl<B: Branch + Drop> Core<B> {
     ///
     /// It is for frames whose sender is known anyway, as those of a world: what comes over a link goes to `frame`.
     ///
-    /// Refused as the node refuses them, and so never for the tag. First the time is set, and rows expire; nothing else
-    /// changes then.
+    /// Refused as the node refuses, never for the tag. First the time is set, and rows expire; all else stays then.
     pub fn frame_as_sealed(&mut self, now: Millis, bytes: &[u8]) -> Result<Taken, Refusal>
         requires moment { now ≤ greatest_millis }
         ensures step { Answers (core_happens self.old (Frame now (bytes_as_sealed self.old.node.keys bytes.now)) Kept)
@@ -179,6 +180,36 @@ impl<B: Branch + Drop> Core<B> {
         ensures stop { (held : Held) → IsCovered held self.old → IsCovered held self.new }
     {
         self.hear(now, Tags::Assumed, bytes)
+    }
+
+    /// Hears a listed member's body as `frame` hears each frame that carries it, for less: it is for a world's frames.
+    /// Refused as the node refuses what is said. First the time is set, and rows expire; nothing else changes then.
+    pub fn frame_saying(
+        &mut self,
+        now: Millis,
+        from: NodeNo,
+        body: &Body<'_>,
+    ) -> Result<Taken, Refusal>
+        requires moment { now ≤ greatest_millis }
+        requires other { from ≢ self.old.node.me }
+        requires listed { IsTrue (is_on self.old.node.list.members from) }
+        ensures step { Answers (after_reply self.old (speech_reply (at_moment now self.old.node) from (speech_of body.now)))
+            self.new (taken_answer result) }
+        ensures carried { (bytes : _) (f : RawFrame) → f.from ≡ from →
+            Carries self.old.node.keys self.old.node.list.members bytes f body.now →
+            Answers (core_happens self.old (Frame now bytes) Kept) self.new (taken_answer result) }
+        ensures unchanged { OnErr result (self.new ≡ record self.old { node = at_moment now self.old.node }) }
+        ensures unsent { self.new.waiting ≡ self.old.waiting }
+    {
+        let mut heard = UNHEARD;
+        self.node.hear_body(now, from, body, &mut heard);
+        match &heard {
+            Ok(heard) => {
+                push_report(&mut self.untaken, &heard.report);
+                return Ok(heard.taken);
+            }
+            Err(why) => return Err(*why),
+        }
     }
 
     /// Hears bytes, with the tag tested or assumed.
@@ -241,13 +272,13 @@ impl<B: Branch + Drop> Core<B> {
         }
     }
 
-    /// Looks at the votes and lets the round go on; what the node says by that waits for every peer, and what it
-    /// reports to be taken.
+    /// Looks at the votes and lets the round go on. What the node says waits for every peer, and its reports are kept.
     ///
     /// If the votes choose another ledger than the round's, the node leaves its round for one on that ledger. Else
     /// the round's phase goes on; once it is ready the next ledger is built, its header is sent, the node validates it,
     /// and a round starts on it. A validation waits only after its save. If the save fails, the ledger and the new
     /// round stand all the same; if there is no room for the ledger, the round stays as it is.
+    #[inline(never)] // in its caller each other event would clear places for its many values
     pub fn timer<K: Keeper>(&mut self, now: Millis, keeper: &mut K) -> TimerAnswer
         requires moment { now ≤ greatest_millis }
         ensures step { Beaten self.old now result self.new }

@@ -9,6 +9,7 @@ use Rattle.xl_disputes.specs.Disputes.{has}
 use Rattle.xl_disputes.specs.Tallies.{Tally, no_tally, held_by}
 use Rattle.xl_disputes.specs.Rows.{IsExchangeable, Exchanges, IsMovable, Moves}
 use Rattle.xl_disputes.specs.Holdings.{Holding, no_holding, member_bits, empty_own, no_holdings, changed, with_set, with_weight, ids_in, tally_from, IsShared}
+use Rattle.xl_disputes.specs.declared.shares.TheConstants.{PLACES}
 use Rattle.xl_disputes.proofs.Sharing.{part, can_release, can_weigh, can_fill, can_replace, weight_most, still_shared, still_shared_with}
 
 -- a change in place
@@ -17,12 +18,12 @@ set_changed' f [] place d within = absurd (omega (arith, within))
 set_changed' f (h ∷ hs) zero d within = refl
 set_changed' f (h ∷ hs) (suc place) d within = ap (λ xs. h ∷ xs) (set_changed' f hs place d (omega (arith, within)))
 
-pub set_changed : (f : Holding → Holding) (hs now : List Holding) (place : ℕ) (h h' : Holding) → length hs ≡ 65 → place < 65 → h ≡ get_or hs place h → h' ≡ f h → hs ≡ now →
+pub set_changed : (f : Holding → Holding) (hs now : List Holding) (place : ℕ) (h h' : Holding) → length hs ≡ PLACES → place < PLACES → h ≡ get_or hs place h → h' ≡ f h → hs ≡ now →
     set hs place h' ≡ changed f place now
 set_changed f hs now place h h' count there at is view =
     ap (set hs place) (is ∙ ap f at) ∙ set_changed' f hs place h (omega (arith, there, count)) ∙ ap (changed f place) view
 
-module _ (hs : List Holding) (rows : List Row) (shared : IsShared hs rows) (place : ℕ) (h : Holding) (there : place < 65) (at : h ≡ get_or hs place h) where
+module _ (hs : List Holding) (rows : List Row) (shared : IsShared hs rows) (place : ℕ) (h : Holding) (there : place < PLACES) (at : h ≡ get_or hs place h) where
   pub may_release : (ids : List TxId) (from to : Tally) → ids ≡ ids_in h → from ≡ tally_from h → to ≡ no_tally → IsExchangeable rows ids from to
   may_release ids from to ids_is from_is to_is =
       subst (λ x. IsExchangeable rows x from to) (sym ids_is) (subst (λ x. IsExchangeable rows (ids_in h) x to) (sym from_is)

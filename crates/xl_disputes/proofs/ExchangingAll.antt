@@ -8,6 +8,7 @@ use Rattle.xl_disputes.specs.declared.rows.Row.{Row}
 use Rattle.xl_disputes.specs.Disputes.{has}
 use Rattle.xl_disputes.specs.Tallies.{Tally, held_by, exchanged, IsWithin, IsFitting, IsWhole}
 use Rattle.xl_disputes.specs.Rows.{is_same, tally_of, IsIndex, with_exchange, IsExchangeable, Exchanges}
+use Rattle.xl_disputes.specs.declared.rows.TheConstants.{ROWS}
 use Rattle.xl_disputes.proofs.IdOrder.{below_trans, same_is, same_itself, below_other}
 use Rattle.xl_disputes.proofs.Exchanging.{rises_rest, exchange_tally, exchange_length}
 
@@ -68,7 +69,7 @@ module _ (old mid new : List Row) (ids : List TxId) (i : ℕ) (x d : TxId) (from
   few_so_far : length mid ≤ length old + i
   few_so_far = subst (λ n. length mid ≤ length old + n) so_far before.few
 
-  pub can_have_room : held_by from ≡ 0 → length mid < 16640
+  pub can_have_room : held_by from ≡ 0 → length mid < ROWS
   can_have_room none = omega (arith, few_so_far, can.room none, within)
 
   module _ (exact : new ≡ with_exchange x from to mid) (index : IsIndex new) where

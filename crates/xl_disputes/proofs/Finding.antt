@@ -8,6 +8,7 @@ use Rattle.xl_base.specs.declared.ids.TxId.{TxId}
 use Rattle.xl_disputes.specs.declared.rows.Row.{Row}
 use Rattle.xl_disputes.specs.Tallies.{Tally, no_tally, held_by, exchanged, IsWithin}
 use Rattle.xl_disputes.specs.Rows.{is_same, ids_of, tally_of, IsIndex, put, with_exchange, goes_before, place_of, IsThere, IsAbsent}
+use Rattle.xl_disputes.specs.declared.rows.TheConstants.{ROWS}
 use Rattle.xl_disputes.proofs.IdOrder.{irreflexive, below_trans, neither_below, same_itself, same_is, below_other}
 use Rattle.xl_disputes.proofs.Exchanging.{rises_rest, tally_above, exchange-IsIndex}
 
@@ -189,7 +190,7 @@ module _ (tx : TxId) (from to : Tally) (rows : List Row) (place : ℕ) (index : 
   nothing_exact = subst (λ (t : Tally). held_by t ≡ 0 → rows ≡ with_exchange tx from to rows) same_none (exchange_nothing tx from to rows place index.rising absent)
 
   -- there is room for one id more
-  pub has_room : IsWithin from (tally_of rows tx) → (held_by from ≡ 0 → length rows < 16640) → length rows < 16640
+  pub has_room : IsWithin from (tally_of rows tx) → (held_by from ≡ 0 → length rows < ROWS) → length rows < ROWS
   has_room within room =
       let nothing_out : IsWithin from no_tally = subst (IsWithin from) (tally_absent tx from to rows place index.rising absent) within in
       room (omega (arith, nothing_out.members, nothing_out.ours))

@@ -9,6 +9,7 @@ use Rattle.xl_base.specs.declared.ids.SetId.{SetId}
 use Rattle.xl_disputes.specs.Disputes.{with_own}
 use Rattle.xl_disputes.specs.Holdings.{Holding, changed, with_set}
 use Rattle.xl_disputes.specs.Standings.{names, stand, with_one, standings, weighed, own_in, own_ids, held_in, known_of, IsKept, IsLast, IsWeighable, IsReady}
+use Rattle.xl_disputes.specs.declared.shares.TheConstants.{PLACES}
 use Rattle.xl_disputes.proofs.Unused.{last_weighed}
 
 -- ---- weights change nothing else
@@ -60,15 +61,15 @@ stand_weighed weights hs (Some id) = prefix_weighed id weights hs
 
 standings_weighed : (weights : List ℕ) (hs : List Holding) (positions : List (Option SetId)) → standings (weighed weights hs) positions ≡ standings hs positions
 standings_weighed weights hs positions =
-    ap (λ (place : Option SetId → ℕ). fold (λ ws position. with_one (place position) ws) (replicate 65 0) positions) (fun_ext (stand_weighed weights hs))
+    ap (λ (place : Option SetId → ℕ). fold (λ ws position. with_one (place position) ws) (replicate PLACES 0) positions) (fun_ext (stand_weighed weights hs))
 
 length_fold : (hs : List Holding) (weights : List ℕ) (positions : List (Option SetId)) → length (fold (λ ws position. with_one (stand hs position) ws) weights positions) ≡ length weights
 length_fold hs weights [] = refl
 length_fold hs weights (position ∷ positions) =
     length_fold hs (with_one (stand hs position) weights) positions ∙ length-set weights (stand hs position) (get_or weights (stand hs position) 0 + 1)
 
-length_standings : (hs : List Holding) (positions : List (Option SetId)) → length (standings hs positions) ≡ 65
-length_standings hs positions = length_fold hs (replicate 65 0) positions
+length_standings : (hs : List Holding) (positions : List (Option SetId)) → length (standings hs positions) ≡ PLACES
+length_standings hs positions = length_fold hs (replicate PLACES 0) positions
 
 -- ---- all is kept once the weights are those of the positions
 

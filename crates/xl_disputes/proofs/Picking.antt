@@ -15,6 +15,7 @@ use Rattle.xl_disputes.specs.Next.{winners}
 use Rattle.xl_disputes.specs.Rows.{is_same, ids_of, tally_of, IsIndex}
 use Rattle.xl_disputes.specs.Holdings.{Holding, ids_in, total, IsShared}
 use Rattle.xl_disputes.specs.Standings.{voters, votes_by, wins, next_of, known_of, IsKept}
+use Rattle.xl_disputes.specs.declared.shares.TheConstants.{PLACES}
 use Rattle.xl_disputes.proofs.IdOrder.{same_itself, below_other}
 use Rattle.xl_disputes.proofs.Exchanging.{rises_rest, RisesFrom-lower}
 use Rattle.xl_disputes.proofs.RisingIds.{IsRising-fold, IsSet-lowest}
@@ -137,7 +138,7 @@ flat_sets (h ∷ hs) = step h.set (flat_sets hs)
     step None more = more
     step (Some s) more = ap (λ ids. s ++ ids) more
 
-pub next_is : (hs : List Holding) (positions : List (Option SetId)) (needed : ℕ) (proposing : Bool) → IsKept hs positions → length hs ≡ 65 →
+pub next_is : (hs : List Holding) (positions : List (Option SetId)) (needed : ℕ) (proposing : Bool) → IsKept hs positions → length hs ≡ PLACES →
     next_of hs needed proposing ≡ winners (known_of hs positions) needed proposing
 next_is hs positions needed proposing kept count =
     ap (λ (v : TxId → Bool). lowest 256 (filter v (flat_map ids_in hs))) (fun_ext (λ tx. ap (next_vote needed proposing) (votes_are hs positions kept count tx)))

@@ -12,6 +12,7 @@ use Rattle.xl_disputes.specs.Rows.{ids_of}
 use Rattle.xl_disputes.specs.Pooled.{no_row, row_of, rows_of, IsPooled}
 use Rattle.xl_pool.proofs.Finding.{Updates-found}
 use Rattle.xl_pool.proofs.Counting.{live-found}
+use Rattle.xl_disputes.specs.declared.rows.TheConstants.{ROWS}
 use Rattle.xl_disputes.proofs.IdOrder.{irreflexive}
 use Rattle.xl_disputes.proofs.Exchanging.{RisesFrom-lower, rises_rest}
 
@@ -162,10 +163,10 @@ pub none_live : (n : ℕ) → live (replicate {A = Slot Row} n empty_slot) ≡ 0
 none_live zero = refl
 none_live (suc n) = omega (arith, sum_by-cons (λ (s : Slot Row). cond (is_some s.value) 1 0) empty_slot (replicate {A = Slot Row} n empty_slot), none_live n)
 
-pub first_pooled : (pool : List (Slot Row)) (order : List Name) (room : ℕ) → pool ≡ replicate 16640 empty_slot → order ≡ [] → 16640 ≤ room → IsPooled pool order room
+pub first_pooled : (pool : List (Slot Row)) (order : List Name) (room : ℕ) → pool ≡ replicate ROWS empty_slot → order ≡ [] → ROWS ≤ room → IsPooled pool order room
 first_pooled pool order room pool_is order_is roomy = record {
-  slots = ap length pool_is ∙ length-replicate {A = Slot Row} 16640 empty_slot;
-  count = ap live pool_is ∙ none_live 16640 ∙ sym (ap length order_is);
+  slots = ap length pool_is ∙ length-replicate {A = Slot Row} ROWS empty_slot;
+  count = ap live pool_is ∙ none_live ROWS ∙ sym (ap length order_is);
   there = subst (All (λ name. get pool name ≡ Some (row_of pool name))) (sym order_is) (All-nil (λ name. get pool name ≡ Some (row_of pool name)));
   roomy = roomy;
 }
@@ -192,7 +193,7 @@ module _ (pool : List (Slot Row)) (order : List Name) (room place : ℕ) (name :
     }
 
   module _ (new : List (Slot Row)) (after : List Name) (room' : ℕ) (updates : Updates pool new name None) (removed : new ≡ without_value pool name) (fewer : live new + 1 ≡ live pool)
-      (after_is : after ≡ take place order ++ drop (suc place) order) (roomy : 16640 ≤ room') where
+      (after_is : after ≡ take place order ++ drop (suc place) order) (roomy : ROWS ≤ room') where
     gone : Updates pool new (get_or order place name) None
     gone = subst (λ n. Updates pool new n None) is updates
 
@@ -213,7 +214,7 @@ module _ (pool : List (Slot Row)) (order : List Name) (room place : ℕ) (name :
 
 module _ (pool : List (Slot Row)) (order : List Name) (room place : ℕ) (name : Name) (row : Row) (pooled : IsPooled pool order room) (new : List (Slot Row)) (after : List Name) (room' : ℕ)
     (none : get pool name ≡ None) (updates : Updates pool new name (Some row)) (added : new ≡ with_value pool name row) (more : live new ≡ live pool + 1)
-    (after_is : after ≡ take place order ++ name ∷ drop place order) (roomy : 16640 ≤ room') where
+    (after_is : after ≡ take place order ++ name ∷ drop place order) (roomy : ROWS ≤ room') where
   pub insert_rows : rows_of new after ≡ take place (rows_of pool order) ++ row ∷ drop place (rows_of pool order)
   insert_rows = ap (rows_of new) after_is ∙ inserted_rows pool new order room place name row pooled none updates
 

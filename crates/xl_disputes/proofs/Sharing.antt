@@ -14,6 +14,7 @@ use Rattle.xl_disputes.specs.Tallies.{Tally, no_tally, held_by, exchanged, IsWit
 use Rattle.xl_disputes.specs.Rising.{rising}
 use Rattle.xl_disputes.specs.Rows.{is_same, ids_of, tally_of, IsExchangeable, Exchanges, part_of, IsMovable, Moves}
 use Rattle.xl_disputes.specs.Holdings.{Holding, no_holding, with_set, with_weight, ids_in, ours_of, tally_from, amount, total, IsShared}
+use Rattle.xl_disputes.specs.declared.shares.TheConstants.{PLACES}
 use Rattle.xl_disputes.proofs.Exchanging.{Counted}
 use Rattle.xl_disputes.proofs.RisingIds.{IsRising-fold}
 use Rattle.xl_disputes.proofs.Extending.{same_ids, has_rising, rising_length}
@@ -166,13 +167,13 @@ module _ (hs : List Holding) (rows : List Row) (shared : IsShared hs rows) where
   most_members : (tx : TxId) → (tally_of rows tx).members < 2 ^ 64
   most_members tx = omega (arith, ap (λ (t : Tally). t.members) (shared.each tx), amount_within (λ h. h.bit) tx hs, shared.bits)
 
-  most_yays : (tx : TxId) → (tally_of rows tx).yays ≤ 65 * 64
+  most_yays : (tx : TxId) → (tally_of rows tx).yays ≤ PLACES * 64
   most_yays tx = omega (arith, ap (λ (t : Tally). t.yays) (shared.each tx), amount_most (λ h. h.weight) 64 tx hs shared.few, shared.count)
 
-  most_ours : (tx : TxId) → (tally_of rows tx).ours ≤ 65
+  most_ours : (tx : TxId) → (tally_of rows tx).ours ≤ PLACES
   most_ours tx = omega (arith, ap (λ (t : Tally). t.ours) (shared.each tx), amount_most ours_of 1 tx hs (ours_most hs), shared.count)
 
-  module _ (place : ℕ) (d : Holding) (h : Holding) (there : place < 65) (at : h ≡ get_or hs place d) where
+  module _ (place : ℕ) (d : Holding) (h : Holding) (there : place < PLACES) (at : h ≡ get_or hs place d) where
     inside : place < length hs
     inside = omega (arith, there, shared.count)
 

@@ -9,6 +9,7 @@ use Rattle.xl_base.specs.declared.ids.SetId.{SetId}
 use Rattle.xl_disputes.specs.Disputes.{is_named, is_yay}
 use Rattle.xl_disputes.specs.Holdings.{Holding, ids_in}
 use Rattle.xl_disputes.specs.Standings.{names, stand, with_one, standings}
+use Rattle.xl_disputes.specs.declared.shares.TheConstants.{PLACES}
 
 -- the sum of the weights at which a test passes
 abbrev pub picked : List Bool → List ℕ → ℕ
@@ -40,9 +41,9 @@ picked_none (b ∷ bs) zero = refl
 picked_none (true ∷ bs) (suc n) = omega (arith, picked_none bs n)
 picked_none (false ∷ bs) (suc n) = omega (arith, picked_none bs n)
 
-pub picked_standings : (hs : List Holding) (bs : List Bool) (positions : List (Option SetId)) → length bs ≡ 65 →
+pub picked_standings : (hs : List Holding) (bs : List Bool) (positions : List (Option SetId)) → length bs ≡ PLACES →
     picked bs (standings hs positions) ≡ count_by (λ position. get_or bs (stand hs position) false) positions
-picked_standings hs bs positions count = omega (arith, picked_fold hs bs (replicate 65 0) positions count, picked_none bs 65)
+picked_standings hs bs positions count = omega (arith, picked_fold hs bs (replicate PLACES 0) positions count, picked_none bs PLACES)
 
 -- ---- the set that a position stands for
 

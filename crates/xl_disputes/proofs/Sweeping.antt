@@ -13,6 +13,7 @@ use Rattle.xl_disputes.specs.declared.rows.Row.{Row}
 use Rattle.xl_disputes.specs.Tallies.{held_by, IsWhole}
 use Rattle.xl_disputes.specs.Rows.{is_same, ids_of, tally_of, is_held}
 use Rattle.xl_disputes.specs.Pooled.{no_row, row_of, rows_of, if_held, IsPooled, IsSwept}
+use Rattle.xl_disputes.specs.declared.rows.TheConstants.{ROWS}
 use Rattle.xl_disputes.proofs.IdOrder.{same_is}
 use Rattle.xl_disputes.proofs.Exchanging.{RisesFrom-lower, rises_rest, tally_above}
 use Rattle.xl_disputes.proofs.Pooling.{before_differs, after_differs, others_same}
@@ -128,7 +129,7 @@ left_there new (name ∷ order) = step (get new name) refl (left_there new order
         All-cons (λ n. get new n ≡ Some (row_of new n)) name (filter (λ n. is_some (get new n)) order) (is ∙ ap (λ o. Some (unwrap_or o no_row)) (sym is)) all
 
 module _ (old new : List (Slot Row)) (order after : List Name) (room room' : ℕ) (pooled : IsPooled old order room) (swept : IsSwept old new order (length order))
-    (after_is : after ≡ filter (λ n. is_some (get new n)) order) (roomy : 16640 ≤ room') where
+    (after_is : after ≡ filter (λ n. is_some (get new n)) order) (roomy : ROWS ≤ room') where
   all_front : All (λ n. get new n ≡ if_held (row_of old n)) order
   all_front = subst (All (λ n. get new n ≡ if_held (row_of old n))) (take_all (length order) order (omega arith)) swept.front
 

@@ -7,6 +7,7 @@ use Rattle.std.proofs.lemmas.List.Elements.{All-nil, All-cons, All-head, All-tai
 use Rattle.xl_base.specs.declared.ids.SetId.{SetId}
 use Rattle.xl_disputes.specs.Holdings.{Holding, member_bits, no_holding, no_holdings, changed, with_set, with_weight}
 use Rattle.xl_disputes.specs.Standings.{names, stand, with_one, standings, weighed, IsLast, IsReady}
+use Rattle.xl_disputes.specs.declared.shares.TheConstants.{PLACES}
 
 abbrev Is0 : ℕ → Type 0
 Is0 n = n ≡ 0
@@ -115,15 +116,15 @@ weighed_behind (suc k) (weight ∷ weights) (h ∷ hs) = weighed_behind k weight
 
 -- ---- all of it
 
-module _ (last : ℕ) (hs : List Holding) (positions : List (Option SetId)) (places : length hs ≡ 65) (is : IsLast last hs positions) where
+module _ (last : ℕ) (hs : List Holding) (positions : List (Option SetId)) (places : length hs ≡ PLACES) (is : IsLast last hs positions) where
   none_there : All Is0 (drop (suc last) (standings hs positions))
   none_there =
-      subst (All Is0) (sym (free_count (suc last) hs (replicate 65 0) positions (sym places) is.unheld)) (All-drop Is0 (suc last) (replicate 65 0) (All-replicate Is0 65 0 refl))
+      subst (All Is0) (sym (free_count (suc last) hs (replicate PLACES 0) positions (sym places) is.unheld)) (All-drop Is0 (suc last) (replicate PLACES 0) (All-replicate Is0 PLACES 0 refl))
 
   -- the first positions and places are enough
   pub first_enough : weighed (take (suc last) (standings hs (take last positions))) hs ≡ weighed (standings hs positions) hs
   first_enough =
-      ap (λ weights. weighed (take (suc last) weights) hs) (first_count hs (replicate 65 0) last positions (sym places) is.unnamed)
+      ap (λ weights. weighed (take (suc last) weights) hs) (first_count hs (replicate PLACES 0) last positions (sym places) is.unnamed)
       ∙ first_weighed (suc last) (standings hs positions) hs none_there is.unheld
 
   -- and what is behind them stays

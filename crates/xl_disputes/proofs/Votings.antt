@@ -11,6 +11,7 @@ use Rattle.xl_disputes.specs.declared.votes.Votes.{Votes}
 use Rattle.xl_disputes.specs.Disputes.{has, is_named, is_yay, is_nay, vote, votes, votes_of, is_counted, counted_sets}
 use Rattle.xl_disputes.specs.Holdings.{Holding, member_bits, ids_in, ours_of, amount, total}
 use Rattle.xl_disputes.specs.Tallies.{Tally, held_by}
+use Rattle.xl_disputes.specs.declared.shares.TheConstants.{PLACES}
 use Rattle.xl_disputes.proofs.Sharing.{one_of, some_one, amount_both}
 use Rattle.xl_disputes.specs.Standings.{stand, voters, votes_by, own_in, own_ids, known_of, IsKept}
 use Rattle.xl_disputes.proofs.Standing.{picked, picked_standings, says, stands_for, amount_picked, both_picked, sets_of}
@@ -31,7 +32,7 @@ nay_is : (o : Option (List TxId)) (tx : TxId) → is_yay (option_map (λ set. no
 nay_is None tx = refl
 nay_is (Some set) tx = refl
 
-module _ (hs : List Holding) (positions : List (Option SetId)) (kept : IsKept hs positions) (count : length hs ≡ 65) (tx : TxId) where
+module _ (hs : List Holding) (positions : List (Option SetId)) (kept : IsKept hs positions) (count : length hs ≡ PLACES) (tx : TxId) where
   found_as : (id : SetId) → find (is_named id) (filter_map (λ s. s) (sets_of hs)) ≡ find (is_named id) (counted_sets (known_of hs positions))
   found_as id = ap (find (is_named id)) (counted_are hs positions kept.own)
 
@@ -111,7 +112,7 @@ votes_same a b yays nays ours =
     ap (λ x. record { yays = x; nays = a.nays; ours = a.ours }) yays ∙ ap (λ x. record { yays = b.yays; nays = x; ours = a.ours }) nays
     ∙ ap (λ x. record { yays = b.yays; nays = b.nays; ours = x }) ours
 
-module _ (hs : List Holding) (positions : List (Option SetId)) (kept : IsKept hs positions) (count : length hs ≡ 65) (tx : TxId) where
+module _ (hs : List Holding) (positions : List (Option SetId)) (kept : IsKept hs positions) (count : length hs ≡ PLACES) (tx : TxId) where
   pub votes_are : votes_by (voters hs) (total hs tx) ≡ votes (known_of hs positions) tx
   votes_are =
       votes_same (votes_by (voters hs) (total hs tx)) (votes (known_of hs positions) tx) (yays_are hs positions kept count tx) (nays_are hs positions kept count tx) (ours_are tx hs (alone_ours hs kept.bits))

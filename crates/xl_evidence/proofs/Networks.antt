@@ -26,7 +26,7 @@ use Rattle.xl_core.proofs.Heard.{heard_parts}
 use Rattle.xl_world.specs.declared.place.Fate.{Fate}
 use Rattle.xl_world.specs.declared.place.Place.{Place}
 use Rattle.xl_world.specs.Disk.{held_by}
-use Rattle.xl_world.specs.World.{World, Step, Act, Again, Torn, Mark, AreFit, IsFit, place_at, is_forged, acts, reply_at, reopened, again, torn, moment_in, asked_at, said_by, step, run}
+use Rattle.xl_world.specs.World.{World, Step, Act, Again, Torn, Mark, AreFit, IsFit, place_at, is_forged, acts, reply_at, reopened_world, again, torn_world, moment_in, asked_at, said_by, step, run}
 use Rattle.xl_world.proofs.Runs.{new_sound, run_sound, run_stays}
 use Rattle.xl_world.proofs.Seats.{issued_genuine}
 use Rattle.xl_world.proofs.Settling.{IsSound}
@@ -44,9 +44,9 @@ IsRealIn w = IsGenuine w.liars w.said
 again_stays : (w : World) (i now number : ℕ) (o : Option Place) (x : SaidLedger) → IsRealIn w x → IsRealIn (again w i now number o) x
 again_stays w i now number None x real = real
 again_stays w i now number (Some p) x real =
-    cond_both (may_hold (held_by p.disk) number) (reopened w i p now number) w (λ v. IsRealIn v x) (λ _. real) (λ _. real)
+    cond_both (may_hold (held_by p.disk) number) (reopened_world w i p now number) w (λ v. IsRealIn v x) (λ _. real) (λ _. real)
 
-torn_stays : (w : World) (i now number : ℕ) (o : Option Place) (asked : Option ℕ) (x : SaidLedger) → IsRealIn w x → IsRealIn (torn w i now number o asked) x
+torn_stays : (w : World) (i now number : ℕ) (o : Option Place) (asked : Option ℕ) (x : SaidLedger) → IsRealIn w x → IsRealIn (torn_world w i now number o asked) x
 torn_stays w i now number None asked x real = real
 torn_stays w i now number (Some p) None x real = real
 torn_stays w i now number (Some p) (Some s) x real = again_stays w i now number (Some (record { core = p.core; disk = record p.disk { asked = Some s } })) x real

@@ -13,9 +13,10 @@ use Rattle.xl_disputes.specs.Rising.{with_tx, rising}
 use Rattle.xl_disputes.proofs.Extending.{has_rising}
 use Rattle.xl_flags.specs.declared.amendment.Amendment.{Amendment}
 use Rattle.xl_flags.specs.declared.standing.Standing.TheVariants.{Without, InForce}
-use Rattle.xl_flags.specs.Votes.{Favor, FlagReport, named, vote_of, favours, has_majority}
+use Rattle.xl_flags.specs.Votes.{Favor, FlagReport, named_amendments, vote_of, favours, has_majority}
 use Rattle.xl_flags.specs.Flags.{run, lasts, is_enabled, reports_of}
-use Rattle.xl_flags.specs.Kept.{earlier, since, from_since, standing_of, is_favoured, Kept, fee_voted, Past, IsRow, IsLater, Remembers, favored, ids_of, new_row, has_row, row_place, with_row, with_rows, favoured_by, kept_favored}
+use Rattle.xl_flags.specs.Kept.{earlier_of, since, from_since, standing_of, is_favoured, Kept, fee_voted, Past, IsRow, IsLater, Remembers, with_favor, ids_of, new_row, has_row, row_place, with_row, with_rows, favoured_by, kept_favored}
+use Rattle.xl_flags.specs.declared.standing.TheConstants.{LASTING}
 use Rattle.xl_flags.proofs.Naming.{same_has, ids_with_row, rising_more, rising_rises}
 use Rattle.xl_flags.proofs.Remembering.{neither, has_append, all_ids, latest, unnamed}
 
@@ -32,10 +33,10 @@ all_rows rows (a ∷ ids) all =
 never_since : (a : TxId) (reports : List FlagReport) → All (λ r. has_majority a r ≡ false) reports → since a reports ≡ None
 never_since a [] none = refl
 never_since a (r ∷ older) none =
-    cond-false (has_majority a r) (Some (earlier r.close (since a older))) None (All-head (λ q. has_majority a q ≡ false) r older none)
+    cond-false (has_majority a r) (Some (earlier_of r.close (since a older))) None (All-head (λ q. has_majority a q ≡ false) r older none)
 
 never_lasts : (a : TxId) (r : FlagReport) (older : List FlagReport) → has_majority a r ≡ false → lasts a (r ∷ older) ≡ false
-never_lasts a r older lacks = ap (λ (rs : List FlagReport). list_any (λ o. nat_le (o.close + 1209600) r.close) rs) (cond-false (has_majority a r) (r ∷ run a older) [] lacks)
+never_lasts a r older lacks = ap (λ (rs : List FlagReport). list_any (λ o. nat_le (o.close + LASTING) r.close) rs) (cond-false (has_majority a r) (r ∷ run a older) [] lacks)
 
 never_enabled : (a : TxId) (reports : List FlagReport) → All (λ r. has_majority a r ≡ false) reports → is_enabled a reports ≡ false
 never_enabled a [] none = refl
@@ -98,14 +99,14 @@ module _ (past : Past) (is_later : All (IsLater past.favors) past.reports) where
 -- ---- a vote more
 
 module _ (past : Past) (m fee : ℕ) (ids : List TxId) (low : 1 ≤ m) (high : m ≤ 64) where
-  own_vote : (j : ℕ) → m ≡ j → vote_of (favored past m fee ids).favors j ≡ Some (record { member = m; fee = fee; ids = ids })
+  own_vote : (j : ℕ) → m ≡ j → vote_of (with_favor past m fee ids).favors j ≡ Some (record { member = m; fee = fee; ids = ids })
   own_vote j same = cond-true (m == j) (Some (record { member = m; fee = fee; ids = ids })) (vote_of past.favors j) (eq-eqb m j same)
 
-  other_vote : (j : ℕ) → (m == j) ≡ false → vote_of (favored past m fee ids).favors j ≡ vote_of past.favors j
+  other_vote : (j : ℕ) → (m == j) ≡ false → vote_of (with_favor past m fee ids).favors j ≡ vote_of past.favors j
   other_vote j other = cond-false (m == j) (Some (record { member = m; fee = fee; ids = ids })) (vote_of past.favors j) other
 
   favoured_so : (row : Amendment) → IsRow past row → (j : ℕ) → 1 ≤ j → j ≤ 64 →
-      is_favoured (favoured_by m ids row).favoured j ≡ favours (vote_of (favored past m fee ids).favors j) row.id
+      is_favoured (favoured_by m ids row).favoured j ≡ favours (vote_of (with_favor past m fee ids).favors j) row.id
   favoured_so row is j j_low j_high =
       elim (cases_eq m j) [
         | inl same ↦
@@ -120,7 +121,7 @@ module _ (past : Past) (m fee : ℕ) (ids : List TxId) (low : 1 ≤ m) (high : m
             ∙ ap (λ (o : Option Favor). favours o row.id) (sym (other_vote j (grind (arith, nat_tests))))
       ]
 
-  row_favored : (row : Amendment) → IsRow past row → IsRow (favored past m fee ids) (favoured_by m ids row)
+  row_favored : (row : Amendment) → IsRow past row → IsRow (with_favor past m fee ids) (favoured_by m ids row)
   row_favored row is = record {
     favoured = favoured_so row is;
     stands = is.stands;
@@ -128,14 +129,14 @@ module _ (past : Past) (m fee : ℕ) (ids : List TxId) (low : 1 ≤ m) (high : m
     standings_long = is.standings_long;
   }
 
-  all_named : all_ids (favored past m fee ids).favors ≡ all_ids past.favors ++ ids
+  all_named : all_ids (with_favor past m fee ids).favors ≡ all_ids past.favors ++ ids
   all_named = latest (record { member = m; fee = fee; ids = ids }) past.favors ∙ ap (λ (ts : List TxId). all_ids past.favors ++ ts) (append-nil ids)
 
-  still_later : (r : FlagReport) → IsLater past.favors r → IsLater (favored past m fee ids).favors r
+  still_later : (r : FlagReport) → IsLater past.favors r → IsLater (with_favor past m fee ids).favors r
   still_later r so a off =
       so a (has_rising a (all_ids past.favors)
       ∙ (neither (has (all_ids past.favors) a) (has ids a)
-      (sym (has_append (all_ids past.favors) ids a) ∙ ap (λ (ts : List TxId). has ts a) (sym all_named) ∙ sym (has_rising a (all_ids (favored past m fee ids).favors)) ∙ off)).0)
+      (sym (has_append (all_ids past.favors) ids a) ∙ ap (λ (ts : List TxId). has ts a) (sym all_named) ∙ sym (has_rising a (all_ids (with_favor past m fee ids).favors)) ∙ off)).0)
 
   same_ids : (rows : List Amendment) → ids_of (map (favoured_by m ids) rows) ≡ ids_of rows
   same_ids [] = refl
@@ -145,13 +146,13 @@ module _ (past : Past) (m fee : ℕ) (ids : List TxId) (low : 1 ≤ m) (high : m
     parts : (ids_of (with_rows kept.amendments ids) ≡ rising (all_ids past.favors ++ ids)) × All (IsRow past) (with_rows kept.amendments ids)
     parts = rows_named past is.later kept.amendments [] ids (is.named ∙ ap rising (sym (append-nil (all_ids past.favors)))) is.rows
 
-    ids_are : ids_of (with_rows kept.amendments ids) ≡ named (favored past m fee ids).favors
+    ids_are : ids_of (with_rows kept.amendments ids) ≡ named_amendments (with_favor past m fee ids).favors
     ids_are = parts.0 ∙ ap rising (sym all_named)
 
-    pub so_many : length (with_rows kept.amendments ids) ≡ length (named (favored past m fee ids).favors)
+    pub so_many : length (with_rows kept.amendments ids) ≡ length (named_amendments (with_favor past m fee ids).favors)
     so_many = sym (length-map (with_rows kept.amendments ids) (λ row. row.id)) ∙ ap length ids_are
 
-    voted_so : (j : ℕ) → 1 ≤ j → j ≤ 64 → fee_voted (kept_favored m fee ids kept).votes j ≡ option_map (λ f. f.fee) (vote_of (favored past m fee ids).favors j)
+    voted_so : (j : ℕ) → 1 ≤ j → j ≤ 64 → fee_voted (kept_favored m fee ids kept).votes j ≡ option_map (λ f. f.fee) (vote_of (with_favor past m fee ids).favors j)
     voted_so j j_low j_high =
         elim (cases_eq m j) [
           | inl same ↦
@@ -166,14 +167,14 @@ module _ (past : Past) (m fee : ℕ) (ids : List TxId) (low : 1 ≤ m) (high : m
               ∙ ap (option_map (λ (f : Favor). f.fee)) (sym (other_vote j (grind (arith, nat_tests))))
         ]
 
-    pub remembers_vote : Remembers (kept_favored m fee ids kept) (favored past m fee ids)
+    pub remembers_vote : Remembers (kept_favored m fee ids kept) (with_favor past m fee ids)
     remembers_vote = record {
       named = same_ids (with_rows kept.amendments ids) ∙ ids_are;
-      rows = All-map (IsRow (favored past m fee ids)) (favoured_by m ids) (with_rows kept.amendments ids)
-          (All-weaker (IsRow past) (λ row. IsRow (favored past m fee ids) (favoured_by m ids row)) (λ row so. row_favored row so) (with_rows kept.amendments ids) parts.1);
+      rows = All-map (IsRow (with_favor past m fee ids)) (favoured_by m ids) (with_rows kept.amendments ids)
+          (All-weaker (IsRow past) (λ row. IsRow (with_favor past m fee ids) (favoured_by m ids row)) (λ row so. row_favored row so) (with_rows kept.amendments ids) parts.1);
       votes = voted_so;
       fees = is.fees;
       fees_long = is.fees_long;
       votes_long = length-set kept.votes (m - 1) (Some fee) ∙ is.votes_long;
-      later = All-weaker (IsLater past.favors) (IsLater (favored past m fee ids).favors) (λ r so. still_later r so) past.reports is.later;
+      later = All-weaker (IsLater past.favors) (IsLater (with_favor past m fee ids).favors) (λ r so. still_later r so) past.reports is.later;
     }

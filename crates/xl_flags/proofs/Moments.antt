@@ -8,14 +8,15 @@ use Rattle.xl_flags.specs.declared.news.FlagLine.TheVariants.{Enabled, Majority,
 use Rattle.xl_flags.specs.declared.standing.Standing.TheVariants.{Since, InForce}
 use Rattle.xl_flags.specs.Votes.{FlagReport, has_majority}
 use Rattle.xl_flags.specs.Flags.{run, lasts, is_enabled, had, news_of}
-use Rattle.xl_flags.specs.Kept.{earlier, since, from_since, standing_of, stands_after, news_between}
+use Rattle.xl_flags.specs.Kept.{earlier_of, since, from_since, standing_of, stands_after, news_between}
+use Rattle.xl_flags.specs.declared.standing.TheConstants.{LASTING}
 
 -- whether two weeks have passed since a moment, if there is one
 abbrev pub is_old : ℕ → Option ℕ → Bool
 is_old close None = false
-is_old close (Some s) = nat_le (s + 1209600) close
+is_old close (Some s) = nat_le (s + LASTING) close
 
-least_old : (c t s : ℕ) → (nat_le (t + 1209600) c || nat_le (s + 1209600) c) ≡ nat_le (min s t + 1209600) c
+least_old : (c t s : ℕ) → (nat_le (t + LASTING) c || nat_le (s + LASTING) c) ≡ nat_le (min s t + LASTING) c
 least_old c t s = grind (arith, nat_tests)
 
 or_none : (b : Bool) → (b || false) ≡ b
@@ -23,18 +24,18 @@ or_none true = refl
 or_none false = refl
 
 -- a moment more, or the least so far, is old where the earlier is
-old_more : (c t : ℕ) (s : Option ℕ) → (nat_le (t + 1209600) c || is_old c s) ≡ is_old c (Some (earlier t s))
-old_more c t None = or_none (nat_le (t + 1209600) c)
+old_more : (c t : ℕ) (s : Option ℕ) → (nat_le (t + LASTING) c || is_old c s) ≡ is_old c (Some (earlier_of t s))
+old_more c t None = or_none (nat_le (t + LASTING) c)
 old_more c t (Some s) = least_old c t s
 
 -- one of the latest reports is old where their least close time is
-any_old : (a : TxId) (c : ℕ) (reports : List FlagReport) → list_any (λ o. nat_le (o.close + 1209600) c) (run a reports) ≡ is_old c (since a reports)
+any_old : (a : TxId) (c : ℕ) (reports : List FlagReport) → list_any (λ o. nat_le (o.close + LASTING) c) (run a reports) ≡ is_old c (since a reports)
 any_old a c [] = refl
 any_old a c (r ∷ older) = by_majority (has_majority a r) (any_old a c older)
   where
-    by_majority : (b : Bool) → list_any (λ o. nat_le (o.close + 1209600) c) (run a older) ≡ is_old c (since a older) →
-        list_any (λ o. nat_le (o.close + 1209600) c) (if b then r ∷ run a older else []) ≡ is_old c (if b then Some (earlier r.close (since a older)) else None)
-    by_majority true before = ap (λ (x : Bool). nat_le (r.close + 1209600) c || x) before ∙ old_more c r.close (since a older)
+    by_majority : (b : Bool) → list_any (λ o. nat_le (o.close + LASTING) c) (run a older) ≡ is_old c (since a older) →
+        list_any (λ o. nat_le (o.close + LASTING) c) (if b then r ∷ run a older else []) ≡ is_old c (if b then Some (earlier_of r.close (since a older)) else None)
+    by_majority true before = ap (λ (x : Bool). nat_le (r.close + LASTING) c || x) before ∙ old_more c r.close (since a older)
     by_majority false before = refl
 
 -- a majority at the latest report is a moment that is kept
@@ -42,16 +43,16 @@ had_since : (a : TxId) (reports : List FlagReport) → had a reports ≡ is_some
 had_since a [] = refl
 had_since a (r ∷ older) = by_majority (has_majority a r)
   where
-    by_majority : (b : Bool) → b ≡ is_some (if b then Some (earlier r.close (since a older)) else None)
+    by_majority : (b : Bool) → b ≡ is_some (if b then Some (earlier_of r.close (since a older)) else None)
     by_majority true = refl
     by_majority false = refl
 
-not_yet : (c : ℕ) → nat_le (c + 1209600) c ≡ false
+not_yet : (c : ℕ) → nat_le (c + LASTING) c ≡ false
 not_yet c = grind (arith, nat_tests)
 
 -- how it stands, from how it stood
 stands : (e h : Bool) (c : ℕ) (s : Option ℕ) →
-    (if e || is_old c (if h then Some (earlier c s) else None) then InForce else from_since (if h then Some (earlier c s) else None))
+    (if e || is_old c (if h then Some (earlier_of c s) else None) then InForce else from_since (if h then Some (earlier_of c s) else None))
     ≡ stands_after (if e then InForce else from_since s) c h
 stands true h c s = refl
 stands false false c None = refl
@@ -93,4 +94,4 @@ news_is i s r older a =
     then Majority i s a ∷ []
     else (if not (has_majority a r) && b then Lost i s a ∷ [] else []))))
     (had_since a older)
-    ∙ said i s a (is_enabled a older) (lasts a (r ∷ older)) (has_majority a r) (earlier r.close (since a older)) (since a older)
+    ∙ said i s a (is_enabled a older) (lasts a (r ∷ older)) (has_majority a r) (earlier_of r.close (since a older)) (since a older)

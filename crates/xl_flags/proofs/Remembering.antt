@@ -17,9 +17,9 @@ use Rattle.xl_flags.specs.declared.amendment.Amendment.{Amendment}
 use Rattle.xl_flags.specs.declared.news.FlagLine.{FlagLine}
 use Rattle.xl_flags.specs.declared.standing.Standing.{Standing}
 use Rattle.xl_flags.specs.declared.standing.Standing.TheVariants.{Without}
-use Rattle.xl_flags.specs.Votes.{Favor, FlagReport, named, vote_of, favours, has_majority, fee_vote, fee_votes, elected}
+use Rattle.xl_flags.specs.Votes.{Favor, FlagReport, named_amendments, vote_of, favours, has_majority, fee_vote, fee_votes, elected_fee}
 use Rattle.xl_flags.specs.Flags.{reports_of, fee_of, news_of, lines_of}
-use Rattle.xl_flags.specs.Kept.{standing_of, stands_after, news_between, is_favoured, standing_at, is_majority, stands_then, reported, row_news, Kept, fee_voted, voted_or, kept_votes, Past, IsRow, IsLater, Remembers, report_of, with_report, fee_then, kept_after, fee_line, kept_lines}
+use Rattle.xl_flags.specs.Kept.{standing_of, stands_after, news_between, is_favoured, standing_at, is_majority, stands_then, after_report, row_news, Kept, fee_voted, voted_or, kept_votes, Past, IsRow, IsLater, Remembers, report_of, with_report, fee_then, kept_after, fee_line, kept_lines}
 use Rattle.xl_flags.proofs.Moments.{standing_more, news_is}
 
 abbrev pub IsMember : ℕ → Type 0
@@ -44,7 +44,7 @@ flat_same g h (row ∷ rows) same =
     ap (λ (ls : List FlagLine). ls ++ flat_map g rows) (All-head (λ r. g r ≡ h r.id) row rows same)
     ∙ ap (λ (ls : List FlagLine). h row.id ++ ls) (flat_same g h rows (All-tail (λ r. g r ≡ h r.id) row rows same))
 
-same_ids : (i close : ℕ) (counted : List ℕ) (rows : List Amendment) → map (λ row. row.id) (map (reported i close counted) rows) ≡ map (λ row. row.id) rows
+same_ids : (i close : ℕ) (counted : List ℕ) (rows : List Amendment) → map (λ row. row.id) (map (after_report i close counted) rows) ≡ map (λ row. row.id) rows
 same_ids i close counted [] = refl
 same_ids i close counted (row ∷ rows) = ap (λ (ids : List TxId). row.id ∷ ids) (same_ids i close counted rows)
 
@@ -125,7 +125,7 @@ module _ (past : Past) (i close : ℕ) (counted : List ℕ) (member : IsMember i
 
   -- the row is kept as it was reported
   stands_so : (row : Amendment) → IsRow past row → (j : ℕ) → 1 ≤ j → j ≤ 64 →
-      standing_at (reported i close counted row).standings j ≡ standing_of row.id (reports_of (report_of past i close counted ∷ past.reports) j)
+      standing_at (after_report i close counted row).standings j ≡ standing_of row.id (reports_of (report_of past i close counted ∷ past.reports) j)
   stands_so row is j low high =
       elim (cases_eq i j) [
         | inl same ↦
@@ -143,7 +143,7 @@ module _ (past : Past) (i close : ℕ) (counted : List ℕ) (member : IsMember i
             ∙ ap (standing_of row.id) (sym (other_reports (report_of past i close counted) past.reports j (grind (arith, nat_tests))))
       ]
 
-  pub row_after : (row : Amendment) → IsRow past row → IsRow (with_report past (report_of past i close counted)) (reported i close counted row)
+  pub row_after : (row : Amendment) → IsRow past row → IsRow (with_report past (report_of past i close counted)) (after_report i close counted row)
   row_after row is = record {
     favoured = is.favoured;
     stands = stands_so row is;
@@ -163,8 +163,8 @@ module _ (past : Past) (i close : ℕ) (counted : List ℕ) (member : IsMember i
 
     fee_is : fee_then i counted kept ≡ fee_of (report_of past i close counted ∷ reports_of past.reports i)
     fee_is =
-        ap (λ (fee : ℕ). elected (kept_votes kept.votes counted fee) fee) current
-        ∙ ap (λ (votes : List ℕ). elected votes (fee_of (reports_of past.reports i))) (votes_same (fee_of (reports_of past.reports i)))
+        ap (λ (fee : ℕ). elected_fee (kept_votes kept.votes counted fee) fee) current
+        ∙ ap (λ (votes : List ℕ). elected_fee votes (fee_of (reports_of past.reports i))) (votes_same (fee_of (reports_of past.reports i)))
 
     -- the lines are those of one report more
     pub lines_are : (s : ℕ) → kept_lines i s close counted kept ≡ lines_of i s (report_of past i close counted) (reports_of past.reports i)
@@ -173,8 +173,8 @@ module _ (past : Past) (i close : ℕ) (counted : List ℕ) (member : IsMember i
         (flat_same (row_news i s close counted) (news_of i s (report_of past i close counted) (reports_of past.reports i)) kept.amendments
         (All-weaker (IsRow past) (λ row. row_news i s close counted row ≡ news_of i s (report_of past i close counted) (reports_of past.reports i) row.id) (λ row so. news s row so) kept.amendments is.rows)
         ∙ ap (flat_map (news_of i s (report_of past i close counted) (reports_of past.reports i))) is.named)
-        ∙ ap (λ (fee : ℕ). flat_map (news_of i s (report_of past i close counted) (reports_of past.reports i)) (named past.favors) ++ fee_line i s fee (slice_index kept.fees (i - 1))) fee_is
-        ∙ ap (λ (fee : ℕ). flat_map (news_of i s (report_of past i close counted) (reports_of past.reports i)) (named past.favors) ++ fee_line i s (fee_of (report_of past i close counted ∷ reports_of past.reports i)) fee) current
+        ∙ ap (λ (fee : ℕ). flat_map (news_of i s (report_of past i close counted) (reports_of past.reports i)) (named_amendments past.favors) ++ fee_line i s fee (slice_index kept.fees (i - 1))) fee_is
+        ∙ ap (λ (fee : ℕ). flat_map (news_of i s (report_of past i close counted) (reports_of past.reports i)) (named_amendments past.favors) ++ fee_line i s (fee_of (report_of past i close counted ∷ reports_of past.reports i)) fee) current
 
     fees_so : (j : ℕ) → 1 ≤ j → j ≤ 64 → slice_index (kept_after i close counted kept).fees (j - 1) ≡ fee_of (reports_of (report_of past i close counted ∷ past.reports) j)
     fees_so j low high =
@@ -196,8 +196,8 @@ module _ (past : Past) (i close : ℕ) (counted : List ℕ) (member : IsMember i
     pub remembers_report : Remembers (kept_after i close counted kept) (with_report past (report_of past i close counted))
     remembers_report = record {
       named = same_ids i close counted kept.amendments ∙ is.named;
-      rows = All-map (IsRow (with_report past (report_of past i close counted))) (reported i close counted) kept.amendments
-          (All-weaker (IsRow past) (λ row. IsRow (with_report past (report_of past i close counted)) (reported i close counted row)) (λ row so. row_after row so) kept.amendments is.rows);
+      rows = All-map (IsRow (with_report past (report_of past i close counted))) (after_report i close counted) kept.amendments
+          (All-weaker (IsRow past) (λ row. IsRow (with_report past (report_of past i close counted)) (after_report i close counted row)) (λ row so. row_after row so) kept.amendments is.rows);
       votes = is.votes;
       fees = fees_so;
       fees_long = length-set kept.fees (i - 1) (fee_then i counted kept) ∙ is.fees_long;

@@ -5,7 +5,7 @@ use Rattle.std.specs.List.{list_any, flat_map}
 use Rattle.xl_base.specs.declared.ids.TxId.{TxId}
 use Rattle.xl_flags.specs.declared.news.FlagLine.{FlagLine}
 use Rattle.xl_flags.specs.declared.news.FlagLine.TheVariants.{Enabled, Majority, Lost, Fee}
-use Rattle.xl_flags.specs.Votes.{FlagReport, named, has_majority, fee_votes, elected}
+use Rattle.xl_flags.specs.Votes.{FlagReport, named_amendments, has_majority, fee_votes, elected_fee}
 
 -- the reports of a node
 abbrev pub reports_of : List FlagReport → ℕ → List FlagReport
@@ -34,7 +34,7 @@ had a (r ∷ older) = has_majority a r
 -- the fee in force
 abbrev pub fee_of : List FlagReport → ℕ
 fee_of [] = 10
-fee_of (r ∷ older) = elected (fee_votes r (fee_of older)) (fee_of older)
+fee_of (r ∷ older) = elected_fee (fee_votes r (fee_of older)) (fee_of older)
 
 -- what the latest report says of an amendment that was not enabled before it
 abbrev pub news_of : ℕ → ℕ → FlagReport → List FlagReport → TxId → List FlagLine
@@ -53,4 +53,4 @@ fee_news i s r older = if fee_of (r ∷ older) == fee_of older then [] else Fee 
 
 -- the lines of a report of a node after its older ones: those on the amendments by rising id, and then the fee's
 abbrev pub lines_of : ℕ → ℕ → FlagReport → List FlagReport → List FlagLine
-lines_of i s r older = flat_map (news_of i s r older) (named r.favors) ++ fee_news i s r older
+lines_of i s r older = flat_map (news_of i s r older) (named_amendments r.favors) ++ fee_news i s r older

@@ -11,20 +11,20 @@ use Rattle.xl_flags.specs.declared.news.FlagLine.{FlagLine}
 use Rattle.xl_flags.specs.declared.news.FlagLine.TheVariants.{Enabled, Majority, Lost, Fee}
 use Rattle.xl_flags.specs.declared.standing.Standing.{Standing}
 use Rattle.xl_flags.specs.declared.standing.Standing.TheVariants.{Without, Since, InForce}
-use Rattle.xl_flags.specs.Votes.{Favor, FlagReport, named, vote_of, favours, has_majority, elected}
+use Rattle.xl_flags.specs.Votes.{Favor, FlagReport, named_amendments, vote_of, favours, has_majority, elected_fee}
 use Rattle.xl_flags.specs.Flags.{reports_of, is_enabled, news_of, fee_of}
 
 -- ---- one amendment at one node
 
 -- the earlier of a close time and of the least before it
-abbrev pub earlier : ℕ → Option ℕ → ℕ
-earlier close None = close
-earlier close (Some since) = min since close
+abbrev pub earlier_of : ℕ → Option ℕ → ℕ
+earlier_of close None = close
+earlier_of close (Some since) = min since close
 
 -- the least close time of the latest reports, as long as an amendment has a majority at each
 abbrev pub since : TxId → List FlagReport → Option ℕ
 since a [] = None
-since a (r ∷ older) = if has_majority a r then Some (earlier r.close (since a older)) else None
+since a (r ∷ older) = if has_majority a r then Some (earlier_of r.close (since a older)) else None
 
 abbrev pub from_since : Option ℕ → Standing
 from_since None = Without
@@ -55,9 +55,9 @@ news_between (Since t) Without i s a = Lost i s a ∷ []
 news_between (Since t) (Since u) i s a = []
 
 -- one line, or none
-abbrev pub listed : Option FlagLine → List FlagLine
-listed None = []
-listed (Some line) = line ∷ []
+abbrev pub line_list : Option FlagLine → List FlagLine
+line_list None = []
+line_list (Some line) = line ∷ []
 
 -- ---- one amendment
 
@@ -76,8 +76,8 @@ abbrev pub stands_then : ℕ → ℕ → List ℕ → Amendment → Standing
 stands_then i close counted row =
     stands_after (standing_at row.standings i) close (is_majority row.favoured counted)
 
-abbrev pub reported : ℕ → ℕ → List ℕ → Amendment → Amendment
-reported i close counted row =
+abbrev pub after_report : ℕ → ℕ → List ℕ → Amendment → Amendment
+after_report i close counted row =
     record row { standings = slice_set row.standings (i - 1) (stands_then i close counted row) }
 
 abbrev pub row_news : ℕ → ℕ → ℕ → List ℕ → Amendment → List FlagLine
@@ -122,10 +122,10 @@ pub record IsRow (past : Past) (row : Amendment) : Type 0 where
 
 -- no report counted a vote for an amendment that was not named by then
 abbrev pub IsLater : List Favor → FlagReport → Type 0
-IsLater favors r = (a : TxId) → has (named favors) a ≡ false → has_majority a r ≡ false
+IsLater favors r = (a : TxId) → has (named_amendments favors) a ≡ false → has_majority a r ≡ false
 
 pub record Remembers (kept : Kept) (past : Past) : Type 0 where
-  pub named : map (λ row. row.id) kept.amendments ≡ named past.favors
+  pub named : map (λ row. row.id) kept.amendments ≡ named_amendments past.favors
   pub rows : All (IsRow past) kept.amendments
   pub votes : (m : ℕ) → 1 ≤ m → m ≤ 64 → fee_voted kept.votes m ≡ option_map (λ f. f.fee) (vote_of past.favors m)
   pub fees : (i : ℕ) → 1 ≤ i → i ≤ 64 → slice_index kept.fees (i - 1) ≡ fee_of (reports_of past.reports i)
@@ -138,8 +138,8 @@ abbrev pub nothing_yet : Past
 nothing_yet = record { favors = []; reports = [] }
 
 -- a vote more
-abbrev pub favored : Past → ℕ → ℕ → List TxId → Past
-favored past m fee ids = record past { favors = record { member = m; fee = fee; ids = ids } ∷ past.favors }
+abbrev pub with_favor : Past → ℕ → ℕ → List TxId → Past
+with_favor past m fee ids = record past { favors = record { member = m; fee = fee; ids = ids } ∷ past.favors }
 
 -- the report that a node makes then
 abbrev pub report_of : Past → ℕ → ℕ → List ℕ → FlagReport
@@ -151,11 +151,11 @@ with_report past r = record past { reports = r ∷ past.reports }
 -- what is kept after a report of a node
 abbrev pub fee_then : ℕ → List ℕ → Kept → ℕ
 fee_then i counted kept =
-    let current = slice_index kept.fees (i - 1) in elected (kept_votes kept.votes counted current) current
+    let current = slice_index kept.fees (i - 1) in elected_fee (kept_votes kept.votes counted current) current
 
 abbrev pub kept_after : ℕ → ℕ → List ℕ → Kept → Kept
 kept_after i close counted kept = record kept {
-  amendments = map (reported i close counted) kept.amendments;
+  amendments = map (after_report i close counted) kept.amendments;
   fees = slice_set kept.fees (i - 1) (fee_then i counted kept);
 }
 

@@ -25,8 +25,8 @@ pub record FlagReport : Type 0 where
   pub counted : List ℕ
 
 -- the amendments that were named, by rising id, each once
-abbrev pub named : List Favor → List TxId
-named favors = rising (flat_map (λ f. f.ids) (reverse favors))
+abbrev pub named_amendments : List Favor → List TxId
+named_amendments favors = rising (flat_map (λ f. f.ids) (reverse favors))
 
 -- the vote of a member that is in force
 abbrev pub vote_of : List Favor → ℕ → Option Favor
@@ -59,5 +59,5 @@ wins votes v w =
     || count_by (λ u. u == v) votes == count_by (λ u. u == w) votes && nat_lt v w
 
 -- the fee that wins; without votes it stays
-abbrev pub elected : List ℕ → ℕ → ℕ
-elected votes current = unwrap_or (first_by (wins votes) votes) current
+abbrev pub elected_fee : List ℕ → ℕ → ℕ
+elected_fee votes current = unwrap_or (first_by (wins votes) votes) current

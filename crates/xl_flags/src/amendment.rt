@@ -1,6 +1,6 @@
 ghost use Rattle.std.specs.Prelude.{◌≡◌, ◌+◌, ◌-◌, ◌*◌, ◌<◌, ◌≤◌, ℕ, length, replicate, false};
 ghost use Rattle.xl_disputes.specs.Disputes.{has};
-ghost use Rattle.xl_flags.specs.Kept.{favoured_by, is_favoured, is_majority, listed, reported, row_news};
+ghost use Rattle.xl_flags.specs.Kept.{favoured_by, is_favoured, is_majority, line_list, after_report, row_news};
 ghost use Rattle.xl_flags.specs.declared.standing.Standing.TheVariants.{Without};
 
 use crate::news::FlagLine;
@@ -43,8 +43,8 @@ impl Amendment {
         counted: &[NodeNo],
     ) -> Option<FlagLine>
         requires { length counted.now ≤ 64 }
-        ensures row { self.new ≡ reported node close counted.now self.old }
-        ensures news { listed result ≡ row_news node seq close counted.now self.old }
+        ensures row { self.new ≡ after_report node close counted.now self.old }
+        ensures news { line_list result ≡ row_news node seq close counted.now self.old }
     {
         let place = place_of(node);
         let before = self.standings[place];

@@ -1,6 +1,6 @@
 ghost use Rattle.std.specs.Prelude.{◌≡◌, ◌==◌, ◌≤◌, length, count_by};
 ghost use Rattle.xl_flags.specs.Kept.{fee_voted, kept_votes, voted_or};
-ghost use Rattle.xl_flags.specs.Votes.{elected as elected_of, wins as wins_of};
+ghost use Rattle.xl_flags.specs.Votes.{elected_fee as elected_of, wins as wins_of};
 ghost use Rattle.xl_firsts.specs.Firsts.{or_one};
 
 use crate::amendment::place_of;

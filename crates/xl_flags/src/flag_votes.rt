@@ -1,8 +1,8 @@
 ghost use Rattle.std.specs.Prelude.{◌≡◌, ◌+◌, ◌≤◌, ◌<◌, ◌++◌, length, map, vec_len, vec_capacity, All, IfOk, IfErr, OnOk, MatchResult};
 ghost use Rattle.std.specs.List.{flat_map, list_all};
-ghost use Rattle.xl_flags.specs.Votes.{most_amendments, named};
+ghost use Rattle.xl_flags.specs.Votes.{most_amendments, named_amendments};
 ghost use Rattle.xl_flags.specs.Flags.{reports_of, lines_of};
-ghost use Rattle.xl_flags.specs.Kept.{reported, row_news, favored, favoured_by, fee_line as fee_line_of, has_row, kept_favored, kept_named, row_place as row_place_of, with_row, with_rows as with_rows_of, listed, kept_after, kept_lines, Past, nothing_kept, nothing_yet, Remembers, report_of, with_report};
+ghost use Rattle.xl_flags.specs.Kept.{after_report, row_news, with_favor, favoured_by, fee_line as fee_line_of, has_row, kept_favored, kept_named, row_place as row_place_of, with_row, with_rows as with_rows_of, line_list, kept_after, kept_lines, Past, nothing_kept, nothing_yet, Remembers, report_of, with_report};
 ghost use Rattle.xl_base.specs.Sets.{is_below as is_below_of};
 
 use crate::amendment::{Amendment, place_of};
@@ -53,12 +53,12 @@ impl FlagVotes {
     /// Refused if more than 4096 different amendments would be named, or as `OutOfMemory`; all stays then.
     pub fn favor(&mut self, member: NodeNo, fee: u32, ids: &[TxId]) -> Result<(), FlagRefusal>
         ensures remembers { MatchResult result
-            (λ done. (past : Past) → Remembers self.old past → Remembers self.new (favored past member fee ids.now))
+            (λ done. (past : Past) → Remembers self.old past → Remembers self.new (with_favor past member fee ids.now))
             (λ e. self.new ≡ self.old) }
         ensures many { IfErr result (λ e. e ≡ FlagRefusal.TooMany → (past : Past) → Remembers self.old past
-            → most_amendments < length (named (favored past member fee ids.now).favors)) }
+            → most_amendments < length (named_amendments (with_favor past member fee ids.now).favors)) }
         ensures few { IfOk result (λ done. (past : Past) → Remembers self.old past
-            → length (named (favored past member fee ids.now).favors) ≤ most_amendments) }
+            → length (named_amendments (with_favor past member fee ids.now).favors) ≤ most_amendments) }
         // So it is with what is kept, whatever that stands for.
         ensures kept { IfOk result (λ done. self.new ≡ kept_favored member fee ids.now self.old) }
         ensures many_kept { IfErr result (λ e. e ≡ FlagRefusal.TooMany
@@ -156,7 +156,7 @@ impl FlagVotes {
 
 /// What a report says of the fee.
 fn fee_line(node: NodeNo, seq: Seq, fee: u32, before: u32) -> Option<FlagLine>
-    ensures { listed result ≡ fee_line_of node seq fee before }
+    ensures { line_list result ≡ fee_line_of node seq fee before }
 {
     if fee == before {
         None
@@ -176,7 +176,7 @@ fn report_all(
 )
     requires few { length counted.now ≤ 64 }
     requires room { vec_len lines.old + length amendments.old ≤ vec_capacity lines.old }
-    ensures rows { amendments.new ≡ map (reported node close counted.now) amendments.old }
+    ensures rows { amendments.new ≡ map (after_report node close counted.now) amendments.old }
     ensures said { lines.new.items ≡ lines.old.items ++ flat_map (row_news node seq close counted.now) amendments.old }
     ensures room { vec_len lines.new ≤ vec_len lines.old + length amendments.old }
     ensures capacity { vec_capacity lines.new ≡ vec_capacity lines.old }
@@ -190,7 +190,7 @@ fn report_all(
 /// Puts a line behind others, if there is one.
 fn push_line(lines: &mut Vec<FlagLine>, line: Option<FlagLine>)
     requires { vec_len lines.old + 1 ≤ vec_capacity lines.old }
-    ensures said { lines.new.items ≡ lines.old.items ++ listed line }
+    ensures said { lines.new.items ≡ lines.old.items ++ line_list line }
     ensures room { vec_len lines.new ≤ vec_len lines.old + 1 }
     ensures capacity { vec_capacity lines.new ≡ vec_capacity lines.old }
 {

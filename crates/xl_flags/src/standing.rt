@@ -1,5 +1,5 @@
 ghost use Rattle.std.specs.Prelude.{◌≡◌, [], ◌∷◌, Some, None};
-ghost use Rattle.xl_flags.specs.Kept.{listed, news_between, stands_after as stands_after_of, unless_lasts};
+ghost use Rattle.xl_flags.specs.Kept.{line_list, news_between, stands_after as stands_after_of, unless_lasts};
 
 use crate::news::FlagLine;
 use xl_base::{NodeNo, Secs, Seq, TxId};
@@ -44,7 +44,7 @@ impl Standing {
 
     /// What a report says of an amendment that stands so after it, and stood otherwise before.
     pub(crate) fn news(self, before: Standing, node: NodeNo, seq: Seq, id: TxId) -> Option<FlagLine>
-        ensures { listed result ≡ news_between before self node seq id }
+        ensures { line_list result ≡ news_between before self node seq id }
     {
         match before {
             Standing::InForce => None,

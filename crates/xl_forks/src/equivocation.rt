@@ -2,10 +2,10 @@
 ghost use Rattle.std.specs.Prelude.{◌≡◌, ◌++◌, filter_map, option_to_list, All, Some, IfOk, OnOk};
 ghost use Rattle.std.specs.BTreeMap.{get, IsOrdered};
 ghost use Rattle.xl_forks.specs.Equivocations.{equivocations_in};
-ghost use Rattle.xl_forks.specs.Kept.{by_both, equivocation_kept, words_seen};
+ghost use Rattle.xl_forks.specs.Kept.{by_both, equivocation_kept, words_seen, IsKept};
 
 use crate::said::Said;
-use crate::words::{Words, WordsByMember, words_of};
+use crate::words::{Words, WordsByMember};
 use std::alloc::Global;
 use xl_base::OutOfMemory;
 
@@ -16,12 +16,14 @@ pub struct Equivocation {
     pub other: Said,
 }
 
-/// Those of all members and sequences, by rising sequence, then by rising member. What was said comes as it was read.
-pub fn equivocations(alloc: Global, said: &[Said]) -> Result<Vec<Equivocation>, OutOfMemory>
-    ensures { IfOk result (λ found. found.items ≡ equivocations_in said.now) }
+/// Those of all members and sequences, by rising sequence, then by rising member.
+pub fn equivocations(
+    alloc: Global,
+    words: &WordsByMember<'_>,
+) -> Result<Vec<Equivocation>, OutOfMemory>
+    ensures { (said : _) → IsKept words.now said → IfOk result (λ found. found.items ≡ equivocations_in said) }
 {
-    let words = words_of(alloc, said)?;
-    equivocations_among(alloc, &words)
+    equivocations_among(alloc, words)
 }
 
 /// Those among the words that are kept, in their order.

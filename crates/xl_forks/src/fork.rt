@@ -3,11 +3,10 @@ ghost use Rattle.std.specs.Prelude.{◌≡◌, ◌<◌, ◌^◌, ◌++◌, map, 
 ghost use Rattle.std.specs.Map.Iter.{deref};
 ghost use Rattle.xl_lists.specs.Quorums.{least_shown as least_shown_of};
 ghost use Rattle.xl_forks.specs.Forks.{fork_of, fork_seen, forks_in, shown_by};
-ghost use Rattle.xl_forks.specs.Kept.{forks_with, two_kept, AreSorted};
+ghost use Rattle.xl_forks.specs.Kept.{forks_with, two_kept, AreSorted, IsKept};
 
 use crate::reported::Reported;
-use crate::said::Said;
-use crate::words::{WordsByMember, said_two, words_of};
+use crate::words::{WordsByMember, said_two};
 use std::alloc::Global;
 use xl_base::{OutOfMemory, Seq};
 use xl_lists::{List, bound};
@@ -24,20 +23,20 @@ pub struct Fork<'a> {
     pub shown: u32,
 }
 
-/// All pairs of reports that differ, by rising sequence, then as the one was read, then as the other was. What was said and
+/// All pairs of reports that differ, by rising sequence, then as the one was read, then as the other was. What was
 /// reported comes as it was read.
 pub fn forks<'a>(
     alloc: Global,
-    said: &[Said],
+    words: &WordsByMember<'_>,
     reported: &'a [Reported],
 ) -> Result<Vec<Fork<'a>>, OutOfMemory>
-    ensures { IfOk result (λ found. map fork_seen found.items ≡ forks_in said.now reported.now) }
+    ensures { IfOk result (λ found. (said : _) → IsKept words.now said
+        → map fork_seen found.items ≡ forks_in said reported.now) }
 {
-    let words = words_of(alloc, said)?;
     let sorted = by_seq(alloc, reported)?;
     let mut found = Vec::new(alloc);
     for (place, one) in sorted.iter().enumerate() {
-        push_forks_of(&mut found, &words, one, &sorted[place + 1..])?;
+        push_forks_of(&mut found, words, one, &sorted[place + 1..])?;
     }
     Ok(found)
 }

@@ -17,3 +17,4 @@ pub use fork::{Fork, forks};
 pub use laws::{law_of_equivocations, law_of_forks};
 pub use reported::Reported;
 pub use said::Said;
+pub use words::{Words, WordsByMember, words_of};

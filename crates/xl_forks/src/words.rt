@@ -9,18 +9,16 @@ use xl_base::{NodeNo, OutOfMemory, Seq};
 
 /// The first word of a member on a sequence, and the first that names another ledger.
 #[derive(Clone, Copy)]
-pub(crate) struct Words<'a> {
+pub struct Words<'a> {
     pub first: &'a Said,
     pub other: Option<&'a Said>,
 }
 
 /// The words of all members by sequence, then by member.
-pub(crate) type WordsByMember<'a> = BTreeMap<(Seq, u32), Words<'a>>;
+pub type WordsByMember<'a> = BTreeMap<(Seq, u32), Words<'a>>;
 
-pub(crate) fn words_of<'a>(
-    alloc: Global,
-    said: &'a [Said],
-) -> Result<WordsByMember<'a>, OutOfMemory>
+/// All that was said, as it was read.
+pub fn words_of<'a>(alloc: Global, said: &'a [Said]) -> Result<WordsByMember<'a>, OutOfMemory>
     ensures { IfOk result (λ words. IsKept words said.now) }
 {
     let mut words: WordsByMember<'a> = BTreeMap::new(alloc);

@@ -17,8 +17,8 @@ use Rattle.xl_world.specs.World.{World}
 use Rattle.xl_world.specs.Schedule.{after_event, outcomes}
 use Rattle.xl_gen.specs.declared.counts.Counts.{Counts}
 use Rattle.xl_gen.specs.declared.generator.Generator.{Generator}
-use Rattle.xl_gen.specs.Schedule.{after, event_at, events_at, events_of, happening, moment_of, node_of, plan, second_lines, submits, submitted, told, tx_of}
-use Rattle.xl_gen.specs.Summaries.{counted, is_built, is_refused, Comes}
+use Rattle.xl_gen.specs.Schedule.{after, event_at, events_at, events_of, events_in, moment_of, node_of, plan, second_lines, submits, submissions_in, outcomes_of, tx_of}
+use Rattle.xl_gen.specs.Summaries.{with_outcomes, is_built, is_refused, Comes}
 use Rattle.xl_replay.specs.Headlines.{is_full}
 
 -- a count over two lists, and over none
@@ -33,7 +33,7 @@ abbrev total : ℕ → ℕ → ℕ → Counts
 total refused built full = record { refused = refused; built = built; full = full }
 
 -- the counts after more outcomes
-pub counted_both : (c : Counts) (os ps : List Outcome) → counted c (os ++ ps) ≡ counted (counted c os) ps
+pub counted_both : (c : Counts) (os ps : List Outcome) → with_outcomes c (os ++ ps) ≡ with_outcomes (with_outcomes c os) ps
 counted_both c os ps =
     let refused : c.refused + count_by is_refused (os ++ ps) ≡ c.refused + count_by is_refused os + count_by is_refused ps =
     let both = count_both is_refused os ps in omega (arith, both) in
@@ -45,7 +45,7 @@ counted_both c os ps =
     ∙ (ap (λ (n : ℕ). total (c.refused + count_by is_refused os + count_by is_refused ps) n (c.full + count_by is_full (os ++ ps))) built
     ∙ ap (λ (n : ℕ). total (c.refused + count_by is_refused os + count_by is_refused ps) (c.built + count_by is_built os + count_by is_built ps) n) full)
 
-pub counted_none : (c : Counts) → counted c [] ≡ c
+pub counted_none : (c : Counts) → with_outcomes c [] ≡ c
 counted_none c =
     let refused : c.refused + count_by is_refused [] ≡ c.refused = let none = count_none is_refused in omega (arith, none) in
     let built : c.built + count_by is_built [] ≡ c.built = let none = count_none is_built in omega (arith, none) in
@@ -59,11 +59,11 @@ pub after_both : (w : World) (es fs : List Event) → after w (es ++ fs) ≡ aft
 after_both w [] fs = refl
 after_both w (e ∷ es) fs = after_both (after_event w e) es fs
 
-pub told_both : (w : World) (es fs : List Event) → told w (es ++ fs) ≡ told w es ++ told (after w es) fs
+pub told_both : (w : World) (es fs : List Event) → outcomes_of w (es ++ fs) ≡ outcomes_of w es ++ outcomes_of (after w es) fs
 told_both w [] fs = refl
 told_both w (e ∷ es) fs =
     ap (λ os. outcomes w e ++ os) (told_both (after_event w e) es fs)
-    ∙ sym (append_assoc (outcomes w e) (told (after_event w e) es) (told (after (after_event w e) es) fs))
+    ∙ sym (append_assoc (outcomes w e) (outcomes_of (after_event w e) es) (outcomes_of (after (after_event w e) es) fs))
 
 -- no event
 pub come_none : (g : Generator) → Comes g g []
@@ -75,10 +75,10 @@ come_both g h i es fs first next = record {
   world = next.world ∙ (ap (λ w. after w fs) first.world ∙ sym (after_both g.world es fs));
   counts =
       next.counts
-      ∙ (ap (λ (w : World). counted h.counts (told w fs)) first.world
-      ∙ (ap (λ (c : Counts). counted c (told (after g.world es) fs)) first.counts
-      ∙ (sym (counted_both g.counts (told g.world es) (told (after g.world es) fs))
-      ∙ ap (counted g.counts) (sym (told_both g.world es fs)))));
+      ∙ (ap (λ (w : World). with_outcomes h.counts (outcomes_of w fs)) first.world
+      ∙ (ap (λ (c : Counts). with_outcomes c (outcomes_of (after g.world es) fs)) first.counts
+      ∙ (sym (counted_both g.counts (outcomes_of g.world es) (outcomes_of (after g.world es) fs))
+      ∙ ap (with_outcomes g.counts) (sym (told_both g.world es fs)))));
 }
 
 -- after which a last one is answered
@@ -127,14 +127,14 @@ unfolding up_from
 nodes_last = refl
 
 -- all that happens in a second
-pub come_all : (g h i j : Generator) (m s : ℕ) (r : Result (Unit {0}) OutOfMemory) → m ≡ moment_of s → Comes g h (events_at m (submitted s)) → Comes h i (event_at m Timers ∷ []) → OnOk r (Comes i j (event_at m All ∷ [])) → OnOk r (Comes g j (events_of s))
+pub come_all : (g h i j : Generator) (m s : ℕ) (r : Result (Unit {0}) OutOfMemory) → m ≡ moment_of s → Comes g h (events_at m (submissions_in s)) → Comes h i (event_at m Timers ∷ []) → OnOk r (Comes i j (event_at m All ∷ [])) → OnOk r (Comes g j (events_of s))
 come_all g h i j m s r at first timers all =
-    let parts : (events_at m (submitted s) ++ event_at m Timers ∷ []) ++ event_at m All ∷ [] ≡ events_at m (happening s) =
-    append_assoc (events_at m (submitted s)) (event_at m Timers ∷ []) (event_at m All ∷ []) ∙ sym (map-append (event_at m) (submitted s) (Timers ∷ All ∷ [])) in
-    subst (λ (k : ℕ). OnOk r (Comes g j (events_at k (happening s)))) at
+    let parts : (events_at m (submissions_in s) ++ event_at m Timers ∷ []) ++ event_at m All ∷ [] ≡ events_at m (events_in s) =
+    append_assoc (events_at m (submissions_in s)) (event_at m Timers ∷ []) (event_at m All ∷ []) ∙ sym (map-append (event_at m) (submissions_in s) (Timers ∷ All ∷ [])) in
+    subst (λ (k : ℕ). OnOk r (Comes g j (events_at k (events_in s)))) at
     (subst (λ es. OnOk r (Comes g j es)) parts
-    (come_last g i j (events_at m (submitted s) ++ event_at m Timers ∷ []) (event_at m All ∷ []) r
-    (come_both g h i (events_at m (submitted s)) (event_at m Timers ∷ []) first timers) all))
+    (come_last g i j (events_at m (submissions_in s) ++ event_at m Timers ∷ []) (event_at m All ∷ []) r
+    (come_both g h i (events_at m (submissions_in s)) (event_at m Timers ∷ []) first timers) all))
 
 -- what is submitted at a node, by what the calls of the code answered
 pub come_submit : (g h : Generator) (at node number k : ℕ) (t : TxId) (r : Result (Unit {0}) OutOfMemory) → k ≡ node → t ≡ tx_of number → OnOk r (Comes g h (event_at at (Submit k t) ∷ [])) → OnOk r (Comes g h (events_at at (submits (node ∷ []) number)))

@@ -30,8 +30,8 @@ use Rattle.xl_replay.specs.Headlines.{full_of, is_full}
 use Rattle.xl_replay.specs.Texts.{agreement_line, forged_line, short_lines}
 use Rattle.xl_replay.proofs.Telling.{Adds, adds_none, adds_then, event_adds}
 use Rattle.xl_gen.specs.declared.counts.Counts.{Counts}
-use Rattle.xl_gen.specs.Schedule.{after, at_first, event_at, events, events_at, events_of, everyone, happening, list, moment_of, node_of, plan, seconds, submits, told, tx_of}
-use Rattle.xl_gen.specs.Summaries.{IsSummary, at_last, counted, counts_text, nothing_told, summary_of}
+use Rattle.xl_gen.specs.Schedule.{after, at_first, event_at, events, events_at, events_of, everyone, events_in, list, moment_of, node_of, plan, seconds, submits, outcomes_of, tx_of}
+use Rattle.xl_gen.specs.Summaries.{IsSummary, at_last, with_outcomes, counts_text, nothing_told, summary_of}
 
 -- what the seven are opened with
 abbrev at_first_shared : Shared
@@ -47,10 +47,10 @@ are_steps w [] = refl
 are_steps w (e ∷ es) = are_steps (after_event w e) es ∙ sym (run-append w (steps_of w e) (steps_in (after_event w e) es))
 
 -- the reports of events are what their outcomes tell
-events_add : (w : World) (es : List Event) → Adds w (after w es) (told w es)
+events_add : (w : World) (es : List Event) → Adds w (after w es) (outcomes_of w es)
 events_add w [] = adds_none w w refl
 events_add w (e ∷ es) =
-    adds_then w (after_event w e) (after (after_event w e) es) (outcomes w e) (told (after_event w e) es)
+    adds_then w (after_event w e) (after (after_event w e) es) (outcomes w e) (outcomes_of (after_event w e) es)
     (event_adds w e.at e.what) (events_add (after_event w e) es)
 
 valid : IsValid list
@@ -77,7 +77,7 @@ end_harmless at = All-cons IsHarmless (event_at at Timers) (event_at at AllCome 
 submit_harmless : (at node number : ℕ) (es : List Event) → All IsHarmless es → All IsHarmless (event_at at (Submit node (tx_of number)) ∷ es)
 submit_harmless at node number es rest = All-cons IsHarmless (event_at at (Submit node (tx_of number))) es (tt, tt) rest
 
-happening_harmless : (at second : ℕ) → All IsHarmless (events_at at (happening second))
+happening_harmless : (at second : ℕ) → All IsHarmless (events_at at (events_in second))
 happening_harmless at second =
     let number : ℕ = second / 4 in
     let third : List Event = event_at at (Submit 3 (tx_of number)) ∷ at_the_end at in
@@ -161,12 +161,12 @@ summarized rounds =
     let harmless : All IsHarmless es = all_harmless (up_from 1 (seconds rounds)) in
     let steps : List Step = steps_in at_first es in
     let seven : IsOfSeven w steps = (are_steps at_first es, are_fit at_first es harmless, same_lists at_first es harmless) in
-    let adds : Adds at_first w (told at_first es) = events_add at_first es in
+    let adds : Adds at_first w (outcomes_of at_first es) = events_add at_first es in
     record {
       reports = w.reports;
       forged = w.forged;
-      front = counts_text rounds (at_last rounds) (counted nothing_told (told at_first (events rounds))) ++ short_lines (at_last rounds);
-      written = parts rounds (at_last rounds) (counted nothing_told (told at_first (events rounds)));
+      front = counts_text rounds (at_last rounds) (with_outcomes nothing_told (outcomes_of at_first (events rounds))) ++ short_lines (at_last rounds);
+      written = parts rounds (at_last rounds) (with_outcomes nothing_told (outcomes_of at_first (events rounds)));
       says = refl;
       fulls = adds.told ∙ ap (map full_of) (sym adds.reports);
       agree = no_fork w steps seven;

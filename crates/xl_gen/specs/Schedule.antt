@@ -46,15 +46,15 @@ submits nodes number = map (λ node. Submit node (tx_of number)) nodes
 
 -- what is submitted in a second: the first transaction at one node, and in the second in which a round closes the one
 -- of the next round at three
-abbrev pub submitted : ℕ → List What
-submitted second =
+abbrev pub submissions_in : ℕ → List What
+submissions_in second =
     if second == 1 then submits (1 ∷ []) 1
     else if nat_le 8 second && second % 4 == 0 then submits (1 ∷ 2 ∷ 3 ∷ []) (second / 4)
     else []
 
 -- what happens in a second: then all have a timer, and all that is sent arrives
-abbrev pub happening : ℕ → List What
-happening second = submitted second ++ Timers ∷ All ∷ []
+abbrev pub events_in : ℕ → List What
+events_in second = submissions_in second ++ Timers ∷ All ∷ []
 
 abbrev pub event_at : ℕ → What → Event
 event_at at what = record { at = at; what = what }
@@ -63,7 +63,7 @@ abbrev pub events_at : ℕ → List What → List Event
 events_at at whats = map (event_at at) whats
 
 abbrev pub events_of : ℕ → List Event
-events_of second = events_at (moment_of second) (happening second)
+events_of second = events_at (moment_of second) (events_in second)
 
 -- so many seconds so many rounds take
 abbrev pub seconds : ℕ → ℕ
@@ -95,6 +95,6 @@ after w [] = w
 after w (e ∷ es) = after (after_event w e) es
 
 -- what is told of them
-abbrev pub told : World → List Event → List Outcome
-told w [] = []
-told w (e ∷ es) = outcomes w e ++ told (after_event w e) es
+abbrev pub outcomes_of : World → List Event → List Outcome
+outcomes_of w [] = []
+outcomes_of w (e ∷ es) = outcomes w e ++ outcomes_of (after_event w e) es

@@ -5,7 +5,7 @@ use Rattle.xl_lines.specs.Rules.{Told, closes}
 use Rattle.xl_sched.specs.declared.event.Event.{Event}
 use Rattle.xl_sched.specs.Reading.{opened}
 use Rattle.xl_world.specs.declared.outcome.Outcome.{Outcome}
-use Rattle.xl_world.specs.declared.outcome.Outcome.TheVariants.{Switched, Built, Refused, Full, Preferred, Heard}
+use Rattle.xl_world.specs.declared.outcome.Outcome.TheVariants.{Built, Refused}
 use Rattle.xl_world.specs.Forks.{first_fork}
 use Rattle.xl_world.specs.World.{World}
 use Rattle.xl_replay.specs.Headlines.{full_of, is_full}
@@ -14,32 +14,24 @@ use Rattle.xl_running.specs.Texts.{newline}
 use Rattle.xl_replay.specs.Texts.{end_lines, forged_line, agreement_line}
 use Rattle.xl_gen.specs.declared.counts.Counts.{Counts}
 use Rattle.xl_gen.specs.declared.generator.Generator.{Generator}
-use Rattle.xl_gen.specs.Schedule.{after, at_first, events, lines, told}
+use Rattle.xl_gen.specs.Schedule.{after, at_first, events, lines, outcomes_of}
 
 -- whether an outcome is told by a `refused` line, or by a `built` line
 abbrev pub is_refused : Outcome → Bool
-is_refused (Switched node seq id) = false
-is_refused (Built node seq id issued) = false
 is_refused (Refused node refusal) = true
-is_refused (Full node seq id) = false
-is_refused (Preferred node ledger) = false
-is_refused (Heard node member id) = false
+is_refused other = false
 
 abbrev pub is_built : Outcome → Bool
-is_built (Switched node seq id) = false
 is_built (Built node seq id issued) = true
-is_built (Refused node refusal) = false
-is_built (Full node seq id) = false
-is_built (Preferred node ledger) = false
-is_built (Heard node member id) = false
+is_built other = false
 
 -- nothing was told
 abbrev pub nothing_told : Counts
 nothing_told = record { refused = 0; built = 0; full = 0 }
 
 -- the counts with these outcomes
-abbrev pub counted : Counts → List Outcome → Counts
-counted c outcomes = record {
+abbrev pub with_outcomes : Counts → List Outcome → Counts
+with_outcomes c outcomes = record {
   refused = c.refused + count_by is_refused outcomes;
   built = c.built + count_by is_built outcomes;
   full = c.full + count_by is_full outcomes;
@@ -48,7 +40,7 @@ counted c outcomes = record {
 -- these events come to what was there
 pub record Comes (old new : Generator) (es : List Event) : Type 0 where
   pub world : new.world ≡ after old.world es
-  pub counts : new.counts ≡ counted old.counts (told old.world es)
+  pub counts : new.counts ≡ with_outcomes old.counts (outcomes_of old.world es)
 
 abbrev pub count_line : List ℕ → ℕ → List ℕ
 count_line word count = word ++ decimal count ++ newline
@@ -74,7 +66,7 @@ at_last rounds = after at_first (events rounds)
 
 abbrev pub summary : ℕ → Told
 summary rounds =
-    closes (summary_of rounds (at_last rounds) (counted nothing_told (told at_first (events rounds))))
+    closes (summary_of rounds (at_last rounds) (with_outcomes nothing_told (outcomes_of at_first (events rounds))))
     (verdict_of (first_fork (at_last rounds).reports))
 
 -- The summary of a world whose reports are these: its last line says what they say together, and if no frame was
@@ -86,5 +78,5 @@ pub record IsSummary (rounds : ℕ) : Type 0 where
   pub written : (summary rounds).text
       ≡ front ++ (forged_line forged ++ agreement_line opened.names (first_fork reports))
   pub says : (summary rounds).verdict ≡ verdict_of (first_fork reports)
-  pub fulls : filter is_full (told at_first (events rounds)) ≡ map full_of reports
+  pub fulls : filter is_full (outcomes_of at_first (events rounds)) ≡ map full_of reports
   pub agree : forged ≡ 0 → first_fork reports ≡ None

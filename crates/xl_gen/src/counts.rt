@@ -1,7 +1,7 @@
 // How many outcomes of a kind were told.
 ghost use Rattle.std.specs.Prelude.{◌≡◌, ◌+◌, count_by, IfOk};
 ghost use Rattle.xl_replay.specs.Headlines.{is_full};
-ghost use Rattle.xl_gen.specs.Summaries.{counted, is_built, is_refused};
+ghost use Rattle.xl_gen.specs.Summaries.{with_outcomes, is_built, is_refused};
 
 use xl_base::OutOfMemory;
 use xl_world::Outcome;
@@ -17,7 +17,7 @@ pub struct Counts {
 impl Counts {
     /// The counts with these outcomes. No computer counts so far that one of them comes to its end.
     pub fn with(&self, outcomes: &[Outcome]) -> Result<Counts, OutOfMemory>
-        ensures { IfOk result (λ counts. counts ≡ counted self.now outcomes.now) }
+        ensures { IfOk result (λ counts. counts ≡ with_outcomes self.now outcomes.now) }
     {
         Ok(Counts {
             refused: sum(self.refused, refused_in(outcomes))?,

@@ -14,7 +14,7 @@ ghost use Rattle.xl_gen.specs.Schedule.{
   node_of,
   plan as plan_of,
   submits,
-  submitted,
+  submissions_in,
   tx_of,
 };
 ghost use Rattle.xl_gen.specs.Summaries.{Comes, nothing_told};
@@ -167,7 +167,7 @@ impl Generator {
     /// What is submitted in a second.
     fn submit_all(&mut self, at: Millis, second: u32) -> Result<(), OutOfMemory>
         requires moment { at ≤ greatest_millis }
-        ensures { OnOk result (Comes self.old self.new (events_at at (submitted second))) }
+        ensures { OnOk result (Comes self.old self.new (events_at at (submissions_in second))) }
     {
         if second == 1 {
             self.submit(at, 1, 1)

@@ -2,6 +2,7 @@
 use Rattle.std.specs.Prelude.{◌≡◌, ℕ, ◌+◌, ◌||◌, ◌⊎◌, nat_le, nat_lt, Bool, true, List, Some, None}
 use Rattle.std.specs.declared.option.Option.{Option}
 use mathlib.Core.List.{IsPrefix}
+use Rattle.xl_base.specs.declared.status.Status.{Status}
 use Rattle.xl_core.specs.Core.{Core}
 use Rattle.xl_core.specs.CoreLives.{core_after}
 use Rattle.xl_store.specs.declared.entry.Entry.{Entry}
@@ -9,7 +10,7 @@ use Rattle.xl_store.specs.declared.status.NodeStatus.{NodeStatus}
 use Rattle.xl_store.specs.Entries.{life_of}
 use Rattle.xl_store.specs.Statuses.{status_of}
 use Rattle.xl_status.specs.Hearings.{after_status}
-use Rattle.xl_status.specs.Texts.{status_text}
+use Rattle.xl_status.specs.Texts.{status_text, unopened_text}
 use Rattle.xl_heartbeat.specs.declared.bulletin.Bulletin.{Bulletin}
 
 -- a text is due from its moment on, or if that lies further ahead than ten seconds
@@ -27,6 +28,20 @@ module _ {D : Type 0} (gives : D → List ℕ → Bool → D → Type 0) where
     pub hearing : new.hearing ≡ after_status old.hearing status
     pub due : new.due ≡ now + 10000
     pub board : Shows (status_text old.profile status new.hearing None) old.board new.board
+
+  -- the same of the end, behind which no text is due
+  pub record TellsEnd (status : NodeStatus) (ended : Status) (old new : Bulletin D) : Type 0 where
+    pub profile : new.profile ≡ old.profile
+    pub hearing : new.hearing ≡ after_status old.hearing status
+    pub due : new.due ≡ old.due
+    pub board : Shows (status_text old.profile status new.hearing (Some ended)) old.board new.board
+
+  -- the same if no core was opened
+  pub record TellsUnopened (ended : Status) (old new : Bulletin D) : Type 0 where
+    pub profile : new.profile ≡ old.profile
+    pub hearing : new.hearing ≡ old.hearing
+    pub due : new.due ≡ old.due
+    pub board : Shows (unopened_text old.profile old.due ended) old.board new.board
 
   -- What was told of a history, as far as that has come: at some of its places a text was due, and was that of how the
   -- core was there

@@ -17,7 +17,7 @@ use crate::pulse::Pulse;
 use crate::relisting::relist_at;
 use crate::reporting::take_and_tell;
 use std::sync::Wait;
-use xl_board::{Board, MemBoard};
+use xl_board::Board;
 use xl_io::{Keeper, Sink};
 use xl_ledger::Branch;
 use xl_links::Clock;
@@ -26,30 +26,6 @@ use xl_store::{Pass, Store, StoreEnd};
 
 /// How long to wait before the store is told again that the node is to stop, in milliseconds.
 const PAUSE: u32 = 1000;
-
-/// Beats until the time of the run is over, and then tells the store that the node is to stop.
-///
-/// Each beat waits and takes the clock's moment. It sets the publishers' list of that second, if it is another than the
-/// one last set, tells the store the moment, takes the reports and writes a line for each. The first beat at whose
-/// moment the time is over is the last. A write's fault, memory that runs out and a full store end the beats too. The
-/// store is told to stop whatever ended them, and again a second later if memory ran out; if it is full it isn't told.
-pub fn beat<W: Wait, B: Branch + Drop, K: Keeper + Drop, O: Sink, C: Clock>(
-    rt: &W,
-    store: &Store<B, K>,
-    clock: &C,
-    sink: &mut O,
-    pulse: &Pulse,
-    pass: &mut Pass,
-) -> BeatEnd
-    requires pass { IsOf store.now pass.old }
-    ensures pass { IsOf store.now pass.new }
-    ensures heartbeat { Heartbeat (start_of store.now) (turns_of store.now) (C.may_give clock.now) pulse.now
-        (known pass.old) (output (O.held sink.old) (O.faults sink.old)) result
-        (known pass.new) (output (O.held sink.new) (O.faults sink.new)) }
-{
-    let untold: Option<Bulletin<MemBoard>> = None;
-    beat_and_tell(rt, store, clock, sink, pulse, untold, pass).end
-}
 
 /// What a heartbeat leaves.
 #[derive(Drop)]
@@ -65,16 +41,16 @@ struct Progress<D> {
     bulletin: Option<Bulletin<D>>,
 }
 
-/// Beats as `beat` does, and tells on the bulletin each ten seconds how the node is. That takes no turn more: the core is
+/// Beats until the time of the run is over, and then tells the store that the node is to stop.
+///
+/// Each beat waits and takes the clock's moment. It sets the publishers' list of that second, if it is another than the
+/// one last set, tells the store the moment, takes the reports and writes a line for each. The first beat at whose
+/// moment the time is over is the last. A write's fault, memory that runs out and a full store end the beats too. The
+/// store is told to stop whatever ended them, and again a second later if memory ran out; if it is full it isn't told.
+///
+/// On the bulletin, if there is one, it tells each ten seconds how the node is. That takes no turn more: the core is
 /// looked at in the turn in which reports are taken.
-pub fn beat_and_tell<
-    W: Wait,
-    B: Branch + Drop,
-    K: Keeper + Drop,
-    O: Sink,
-    C: Clock,
-    D: Board + Drop,
->(
+pub fn beat<W: Wait, B: Branch + Drop, K: Keeper + Drop, O: Sink, C: Clock, D: Board + Drop>(
     rt: &W,
     store: &Store<B, K>,
     clock: &C,

@@ -1,13 +1,13 @@
-ghost use Rattle.std.specs.Prelude.{◌≡◌, ◌+◌, ◌≤◌, IfOk, None};
+ghost use Rattle.std.specs.Prelude.{◌≡◌, ◌+◌, ◌≤◌, IfOk, Some, None};
 ghost use Rattle.std.specs.String.{string_bytes};
 ghost use Rattle.xl_base.specs.Moments.{greatest_millis};
-ghost use Rattle.xl_status.specs.Texts.{status_text};
-ghost use Rattle.xl_heartbeat.specs.Bulletins.{is_due as is_due_of, Tells};
+ghost use Rattle.xl_status.specs.Texts.{status_text, unopened_text};
+ghost use Rattle.xl_heartbeat.specs.Bulletins.{is_due as is_due_of, Shows, Tells, TellsEnd, TellsUnopened};
 
 use std::alloc::Global;
-use xl_base::{Millis, OutOfMemory};
+use xl_base::{Millis, OutOfMemory, Status};
 use xl_board::Board;
-use xl_status::{Hearing, Profile, push_status};
+use xl_status::{Hearing, Profile, push_status, push_unopened};
 use xl_store::NodeStatus;
 
 /// The milliseconds from text to text.
@@ -41,22 +41,82 @@ impl<D: Board> Bulletin<D> {
     {
         self.hearing.note(status);
         self.due = now + EVERY;
-        if let Ok(text) = text_of(self.alloc, &self.profile, &self.hearing, status) {
+        show_status(
+            self.alloc,
+            &mut self.board,
+            &self.profile,
+            &self.hearing,
+            status,
+            None,
+        );
+    }
+
+    /// Tells how the node was at its end, and how that came, once its core is at rest.
+    pub fn tell_end(&mut self, status: &NodeStatus, ended: Status)
+        ensures { TellsEnd D.show_gives status.now ended self.old self.new }
+    {
+        self.hearing.note(status);
+        show_status(
+            self.alloc,
+            &mut self.board,
+            &self.profile,
+            &self.hearing,
+            status,
+            Some(ended),
+        );
+    }
+
+    /// Tells how a node ended whose core was never opened, which it should have been when the first text was due.
+    pub fn tell_unopened(&mut self, ended: Status)
+        ensures { TellsUnopened D.show_gives ended self.old self.new }
+    {
+        if let Ok(text) = unopened_text_of(self.alloc, &self.profile, self.due, ended) {
             let _ = self.board.show(text.as_bytes());
         }
     }
 }
 
-/// The text of a node that runs.
+/// Shows the text of a node that runs, or that has ended so, if there is memory for it.
+fn show_status<D: Board>(
+    alloc: Global,
+    board: &mut D,
+    profile: &Profile,
+    hearing: &Hearing,
+    status: &NodeStatus,
+    ended: Option<Status>,
+)
+    ensures { Shows D.show_gives (status_text profile.now status.now hearing.now ended) board.old board.new }
+{
+    if let Ok(text) = text_of(alloc, profile, hearing, status, ended) {
+        let _ = board.show(text.as_bytes());
+    }
+}
+
+/// The text of a node that runs, or that has ended so.
 fn text_of(
     alloc: Global,
     profile: &Profile,
     hearing: &Hearing,
     status: &NodeStatus,
+    ended: Option<Status>,
 ) -> Result<String, OutOfMemory>
-    ensures { IfOk result (λ text. string_bytes text ≡ status_text profile.now status.now hearing.now None) }
+    ensures { IfOk result (λ text. string_bytes text ≡ status_text profile.now status.now hearing.now ended) }
 {
     let mut text = String::new(alloc);
-    push_status(alloc, &mut text, profile, status, hearing, None)?;
+    push_status(alloc, &mut text, profile, status, hearing, ended)?;
+    Ok(text)
+}
+
+/// The text of a node that ended so before its core was opened.
+fn unopened_text_of(
+    alloc: Global,
+    profile: &Profile,
+    moment: Millis,
+    ended: Status,
+) -> Result<String, OutOfMemory>
+    ensures { IfOk result (λ text. string_bytes text ≡ unopened_text profile.now moment ended) }
+{
+    let mut text = String::new(alloc);
+    push_unopened(&mut text, profile, moment, ended)?;
     Ok(text)
 }

@@ -24,7 +24,7 @@ mod room;
 mod status;
 mod timing;
 
-pub use beating::{BeatLeft, beat, beat_and_tell};
+pub use beating::{BeatLeft, beat};
 pub use bulletin::Bulletin;
 pub use ends::{BeatEnd, Ending, Stopping};
 pub use pulse::Pulse;

@@ -1,5 +1,5 @@
 //! The kept number of a node, in a file: the keeper that outlives the process. And a board in a file, on which a node
-//! says how it is.
+//! says how it is, opened by its path.
 //!
 //! It stands on xl_base, xl_io and xl_board. Its one contract: a call answers `Failed` only if the count rose in that
 //! call. Over a file that tells what it holds, a save that was answered with Ok leaves the number's text in place; one
@@ -9,6 +9,7 @@
 #![tactic(auto)]
 
 mod board;
+mod boards;
 mod keeper;
 mod lockable;
 mod memory;
@@ -17,6 +18,7 @@ mod text;
 mod whole;
 
 pub use board::FileBoard;
+pub use boards::SystemBoards;
 pub use keeper::FileKeeper;
 pub use lockable::Lockable;
 pub use memory::MemFile;

@@ -1,3 +1,5 @@
+mod boards;
+
 use super::*;
 use std::alloc::Allocator;
 use std::fs::{self, File, Files, Metadata, OpenFile, OpenOptions};
@@ -6,7 +8,6 @@ use std::os::unix::fs::symlink;
 use std::sync::atomic::{AtomicU64, Ordering};
 use std::test::Fail;
 use std::time::{Clock, Duration};
-use xl_board::Board;
 use xl_io::{Failed, Keeper};
 
 /// A new folder of this name among the system's temporary ones.
@@ -378,22 +379,5 @@ fn a_failed_save_leaves_the_former_number_or_the_asked_one(rt: HostRuntime) -> R
         assert!(rt; keeper.save(7) == Ok(()));
         assert!(rt; keeper.load() == Ok(7));
     }
-    Ok(())
-}
-
-#[test]
-fn a_board_is_a_whole_text(rt: HostRuntime) -> Result<(), Fail> {
-    let folder = folder(&rt, "xl_keep_board")?;
-    let file = SystemFile::new(rt.alloc(), rt.clone()?, folder.as_str(), "xl.status")?;
-    let mut board = FileBoard::new(file);
-    crosses(&board);
-    let path = format!(in rt.alloc(); "{folder}/xl.status")?;
-    for text in ["one\n", "", "three\nlines\nlong\n"] {
-        assert!(rt; board.show(text.as_bytes()) == Ok(()));
-        assert_eq!(rt; fs::read_to_string(&rt, path.as_str())?.as_str(), text);
-    }
-    fs::remove_dir_all(&rt, folder.as_str())?;
-    assert!(rt; board.show(b"lost") == Err(Failed));
-    assert_eq!(rt; board.faults(), 1);
     Ok(())
 }

@@ -11,6 +11,7 @@ use Rattle.xl_ledger.specs.Chains.{seq_at, chain, common_of, AreLedgers}
 use Rattle.xl_ledger.specs.Jumps.{ancestor_of, jump_of}
 use Rattle.xl_base.specs.Counts.{one_more}
 use Rattle.xl_ledger.specs.Walks.{Walked, GoesOn, TakesStep}
+use Rattle.xl_ledger.specs.Limits.{levels}
 use Rattle.xl_ledger.proofs.ChainLaws.{seq_of_added, IsAt}
 use Rattle.xl_ledger.proofs.Ancestors.{double, at_ancestor, own_ancestor, is_ancestor, ancestor_twice, is_jump, jump_twice}
 use Rattle.xl_ledger.proofs.Meeting.{common_leveled_left, common_leveled_right, common_rises, common_parent}
@@ -30,8 +31,8 @@ pub record Climbs (start now : Walked) (ledger seq at : ℕ) : Type 0 where
   pub same : ancestor_of start.ledgers.headers at seq ≡ ancestor_of start.ledgers.headers ledger seq
   pub goes_on : GoesOn start now
   pub bits : ℕ
-  pub near : bits < 18 → seq_at start.ledgers.headers at < seq + 2 ^ bits
-  pub few : now.taken + bits ≤ start.taken + 18
+  pub near : bits < levels → seq_at start.ledgers.headers at < seq + 2 ^ bits
+  pub few : now.taken + bits ≤ start.taken + levels
   pub moved : ((at ≡ ledger) × (now ≡ start)) ⊎ (TakesStep start now × (seq < seq_at start.ledgers.headers ledger))
 
 pub climbs_from : (start : Walked) (ledger seq : ℕ) → ledger < length start.ledgers.headers → seq ≤ seq_at start.ledgers.headers ledger → Climbs start start ledger seq ledger
@@ -41,7 +42,7 @@ climbs_from start ledger seq known above = record {
   lower = omega arith;
   same = refl;
   goes_on = goes_from start;
-  bits = 18;
+  bits = levels;
   near = λ lt. absurd (omega arith);
   few = omega arith;
   moved = inl (refl, refl);
@@ -59,11 +60,11 @@ module _ (start now : Walked) (ledger seq at s : ℕ) (c : Climbs start now ledg
 
   -- the highest bit of what is left
   module _ (level : ℕ) (reaches : 2 ^ level ≤ s - seq) (highest : s - seq < 2 * 2 ^ level) where
-    pub bit_within : level < 18
-    bit_within = lower_power level 18 (omega arith)
+    pub bit_within : level < levels
+    bit_within = lower_power level levels (omega arith)
 
     bit_lower : level < c.bits
-    bit_lower = elim (cases_lt c.bits 18) [ inl lt ↦ lower_power level c.bits (omega (arith, c.near lt, own)) | inr ge ↦ omega (arith, bit_within) ]
+    bit_lower = elim (cases_lt c.bits levels) [ inl lt ↦ lower_power level c.bits (omega (arith, c.near lt, own)) | inr ge ↦ omega (arith, bit_within) ]
 
     module _ (up : ℕ) (value : up ≡ jump_of now.ledgers.headers at level) where
       is : up ≡ jump_of hs at level
@@ -113,7 +114,7 @@ pub record AreApart (ls : List Header) (a b left right level : ℕ) : Type 0 whe
   pub differ : left ≢ right
   pub same : common_of ls left right ≡ common_of ls a b
   pub agree : jump_of ls left level ≡ jump_of ls right level
-  pub within : level ≤ 18
+  pub within : level ≤ levels
 
 -- two steps a level; but not at each level, since no chain is long enough
 abbrev pub IsFew : List Header → ℕ → ℕ → ℕ → ℕ → Type 0
@@ -129,14 +130,14 @@ module _ (ls : List Header) (ok : AreLedgers ls) where
       let at = is_ancestor ls ok place 0 within (omega arith) in
       ap (ancestor_of ls place) e ∙ root_if (ancestor_of ls place 0) at.known at.seq
 
-  pub apart_from : (a b : ℕ) → a < length ls → b < length ls → seq_at ls a ≡ seq_at ls b → seq_at ls a < 262144 → a ≢ b → AreApart ls a b a b 18
+  pub apart_from : (a b : ℕ) → a < length ls → b < length ls → seq_at ls a ≡ seq_at ls b → seq_at ls a < 262144 → a ≢ b → AreApart ls a b a b levels
   apart_from a b a_known b_known one_seq low differ = record {
     left_known = a_known;
     right_known = b_known;
     one_seq = one_seq;
     differ = differ;
     same = refl;
-    agree = ancestor_root a (seq_at ls a - 2 ^ 18) a_known (omega arith) ∙ sym (ancestor_root b (seq_at ls b - 2 ^ 18) b_known (omega arith));
+    agree = ancestor_root a (seq_at ls a - 2 ^ levels) a_known (omega arith) ∙ sym (ancestor_root b (seq_at ls b - 2 ^ levels) b_known (omega arith));
     within = omega arith;
   }
 

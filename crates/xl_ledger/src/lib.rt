@@ -7,6 +7,18 @@
 //! It stands on xl_base and the kit's `byteorder`; only opening a registry takes memory. Its one contract: what a
 //! registry and a walk answer is read from the list of headers, and a `Branch` prefers what counting its votes over
 //! whole chains does.
+//!
+//! Two ledgers follow one, whose header is `a`:
+//!
+//! ```
+//! let mut registry = Registry::open(alloc, 4)?;
+//! let fork = registry.add(&a)?;
+//! let left = registry.add(&b)?;
+//! let right = registry.add(&c)?;
+//! let mut walk = registry.walk();
+//! assert_eq!(walk.common(left, right), fork);
+//! assert_eq!(walk.ancestor(right, 0), LedgerNo::root());
+//! ```
 #![tactic(auto)]
 
 mod branch;

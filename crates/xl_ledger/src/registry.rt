@@ -17,6 +17,8 @@ use std::alloc::Global;
 use std::marker::Model;
 use xl_base::{LedgerId, OutOfMemory, Seq};
 
+mod places;
+
 /// The least number of ledgers for which a registry may have room, the root among them.
 pub const LEAST_LIMIT: u32 = 2;
 

@@ -8,6 +8,14 @@
 //! does if the count of that fault rose, and only then. If a read failed, that front is the answers to the lines that
 //! had ended. A machine may end its text before the input's end: it refuses a line, or has found what it looks for.
 //! Nothing is read behind the piece with that line. Its answers are a text, or bytes whatever they are.
+//!
+//! ```
+//! let mut lines = Lines::new(alloc, limits, machine);
+//! match drive(&mut lines, &mut input, &mut output) {
+//!     Ok(verdict) => {} // the whole text was written
+//!     Err(fault) => {}  // a front of it
+//! }
+//! ```
 #![tactic(auto)]
 
 mod answer;

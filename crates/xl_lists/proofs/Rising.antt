@@ -8,6 +8,7 @@ use Rattle.std.proofs.lemmas.List.Elements.{filter-append, All-nil, All-cons, Al
 use Rattle.std.proofs.lemmas.List.Sums.{length-filter, count_by-le-length}
 use Rattle.std.proofs.lemmas.List.FromFn.{length-range_with_len}
 use Rattle.xl_lists.specs.Lists.{is_on, all_numbers, rising}
+use Rattle.xl_base.specs.Members.{greatest_node_no}
 use Rattle.xl_lists.proofs.Counting.{count_by-cons, count_shared}
 
 -- ---- what passes of the first numbers
@@ -45,7 +46,7 @@ passed_few p number =
     omega (arith, length-filter p (range_with_len 1 (number - 1)), count_by-le-length p (range_with_len 1 (number - 1)), length-range_with_len 1 (number - 1))
 
 -- the numbers below 65 are all
-pub passed_all : (p : ℕ → Bool) (number : ℕ) → number ≡ 65 → passed p number ≡ filter p all_numbers
+pub passed_all : (p : ℕ → Bool) (number : ℕ) → number ≡ (greatest_node_no + 1) → passed p number ≡ filter p all_numbers
 unfolding all_numbers
 passed_all p number last = ap (λ (k : ℕ). filter p (range_with_len 1 k)) (let count : number - 1 ≡ 64 = omega arith in count)
 
@@ -147,7 +148,7 @@ pub once_rising : (ms : List ℕ) → IsDistinct nat_eq (rising ms)
 unfolding all_numbers
 once_rising ms = once_filter (is_on ms) 1 64
 
-range_filter : (p : ℕ → Bool) (a n : ℕ) → 1 ≤ a → a + n ≤ 65 → All (λ m. (1 ≤ m) × (m ≤ 64)) (filter p (range_with_len a n))
+range_filter : (p : ℕ → Bool) (a n : ℕ) → 1 ≤ a → a + n ≤ (greatest_node_no + 1) → All (λ m. (1 ≤ m) × (m ≤ 64)) (filter p (range_with_len a n))
 range_filter p a zero low high = All-nil (λ m. (1 ≤ m) × (m ≤ 64))
 range_filter p a (suc n) low high =
     let rest : All (λ m. (1 ≤ m) × (m ≤ 64)) (filter p (range_with_len (a + 1) n)) = range_filter p (a + 1) n (omega arith) (omega arith) in

@@ -6,6 +6,15 @@
 //!
 //! It stands on xl_base alone, and no call takes memory. Its one contract: where two quorums are `enough`, what a
 //! network keeps at each step lets no two reports of one sequence name different ledgers.
+//!
+//! Three members on both lists are enough, if none of them lies:
+//!
+//! ```
+//! let list = List::new(&[1, 2, 3, 4, 5], 4)?;
+//! let other = List::new(&[3, 4, 5, 6, 7], 4)?;
+//! assert!(enough(&list, &other, &[]));
+//! assert!(!enough(&list, &other, &[liar])); // number 3
+//! ```
 #![tactic(auto)]
 
 mod laws;

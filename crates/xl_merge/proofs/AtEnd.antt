@@ -7,15 +7,15 @@ use Rattle.xl_lines.specs.Ends.{FindsNothing, FindsAtEnd}
 use Rattle.xl_sched.specs.declared.refusal.SchedRefusal.{SchedRefusal}
 use Rattle.xl_sched.specs.declared.refusal.SchedRefusal.TheVariants.{Header}
 use Rattle.xl_merge.specs.declared.line.Line.{Line}
-use Rattle.xl_merge.specs.Merging.{Merging, answered, bounded_line, ending, rules}
+use Rattle.xl_merge.specs.Merging.{Merging, step_of_line, bounded_line, told_at_end, rules}
 use Rattle.xl_merge.specs.Texts.{bad_line}
 
-answer_finds : (m : Merging) (line : Result (Option Line) SchedRefusal) → FindsNothing (answered m line)
+answer_finds : (m : Merging) (line : Result (Option Line) SchedRefusal) → FindsNothing (step_of_line m line)
 answer_finds m (Ok None) = tt
 answer_finds m (Ok (Some line)) = tt
 answer_finds m (Err refusal) = tt
 
-closes_at_end : (m : Merging) → (ending m).closed ≡ true
+closes_at_end : (m : Merging) → (told_at_end m).closed ≡ true
 closes_at_end m =
     cond_both (m.lines == 0) (closes (bad_line 1 (Header [])) Refused) (closes [] Good) (λ told. told.closed ≡ true)
     (λ _. refl) (λ _. refl)

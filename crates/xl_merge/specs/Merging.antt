@@ -46,16 +46,16 @@ bounded_line m bytes =
     else if m.lines == most_lines then Err (Limit (decimal most_lines))
     else line_of_tokens m (tokens bytes)
 
-abbrev pub counted : Merging → Merging
-counted m = record m { lines = m.lines + 1 }
+abbrev pub with_line_counted : Merging → Merging
+with_line_counted m = record m { lines = m.lines + 1 }
 
 -- what is known after a line
 abbrev pub after_line : Merging → Line → Merging
-after_line m (line.Publisher publisher key) = record (counted m) { register = after_key m.register publisher key }
-after_line m (line.Threshold threshold) = record (counted m) { threshold = threshold }
-after_line m (line.Roll bytes) = record (counted m) { register = after_roll m.register bytes }
-after_line m (line.At at) = record (counted m) { now = at }
-after_line m line.List = counted m
+after_line m (line.Publisher publisher key) = record (with_line_counted m) { register = after_key m.register publisher key }
+after_line m (line.Threshold threshold) = record (with_line_counted m) { threshold = threshold }
+after_line m (line.Roll bytes) = record (with_line_counted m) { register = after_roll m.register bytes }
+after_line m (line.At at) = record (with_line_counted m) { now = at }
+after_line m line.List = with_line_counted m
 
 -- what is written of a line
 abbrev pub text_of : Merging → Line → List ℕ
@@ -63,28 +63,28 @@ text_of m (line.Roll bytes) = roll_text (m.lines + 1) (answer_to m.register byte
 text_of m line.List = list_text (list_at m.register.kept (m.now / 1000) m.threshold)
 text_of m other = []
 
-abbrev pub answered : Merging → Result (Option Line) SchedRefusal → Step Merging
-answered m (Ok None) = goes_on [] (counted m)
-answered m (Ok (Some line)) = goes_on (text_of m line) (after_line m line)
-answered m (Err refusal) = refuses (bad_line (m.lines + 1) refusal)
+abbrev pub step_of_line : Merging → Result (Option Line) SchedRefusal → Step Merging
+step_of_line m (Ok None) = goes_on [] (with_line_counted m)
+step_of_line m (Ok (Some line)) = goes_on (text_of m line) (after_line m line)
+step_of_line m (Err refusal) = refuses (bad_line (m.lines + 1) refusal)
 
 -- the answer to a line
 abbrev pub step_of : Merging → List ℕ → Step Merging
-step_of m bytes = answered m (bounded_line m bytes)
+step_of m bytes = step_of_line m (bounded_line m bytes)
 
 abbrev pub beyond : Overrun → SchedRefusal
 beyond overrun.LongLine = LongLine (decimal most_bytes)
 beyond overrun.ManyLines = Limit (decimal most_lines)
 
 -- the end of the lines: if there is none the header is lacking
-abbrev pub ending : Merging → Told
-ending m = if m.lines == 0 then closes (bad_line 1 (Header [])) Refused else closes [] Good
+abbrev pub told_at_end : Merging → Told
+told_at_end m = if m.lines == 0 then closes (bad_line 1 (Header [])) Refused else closes [] Good
 
 abbrev pub rules : Rules Merging
 rules = record {
   step = λ m bytes _. step_of m bytes;
   overrun = λ m overrun. bad_line (m.lines + 1) (beyond overrun);
-  closing = ending;
+  closing = told_at_end;
 }
 
 abbrev pub limits : Limits

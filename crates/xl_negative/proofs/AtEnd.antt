@@ -16,9 +16,9 @@ use Rattle.xl_running.specs.Running.{answer_in, world_of}
 use Rattle.xl_running.specs.Texts.{bad_line}
 use Rattle.xl_negative.specs.Keeping.{Keeping}
 use Rattle.xl_negative.specs.Seats.{seat_at, with_leaving_out}
-use Rattle.xl_negative.specs.Writing.{Writing, Change, added, and_then, after_answer, after_line, after_outcome, after_outcomes, change_at, copied, counted, ending, goes_over, happened, ledgers_at, rules, written}
+use Rattle.xl_negative.specs.Writing.{Writing, Change, step_adding, and_then, after_answer, after_line, after_outcome, after_outcomes, change_at, copied, with_line_counted, told_at_end, goes_over, after_event, ledgers_at, rules, as_line}
 
-added_finds : {H : Type 0} (s : Writing H) (text bytes : List ℕ) (a : LineAnswer) → FindsNothing (added s text bytes a)
+added_finds : {H : Type 0} (s : Writing H) (text bytes : List ℕ) (a : LineAnswer) → FindsNothing (step_adding s text bytes a)
 added_finds s text bytes (passes reading) = tt
 added_finds s text bytes (gives l reading) = tt
 added_finds s text bytes (refuses why) = tt
@@ -30,7 +30,7 @@ then_finds further nothing (goes_on text s) before = nothing s text
 then_finds further nothing (stops text) before = tt
 then_finds further nothing (finds text) before = before
 
-closes_at_end : {H : Type 0} (s : Writing H) → (ending s).closed ≡ true
+closes_at_end : {H : Type 0} (s : Writing H) → (told_at_end s).closed ≡ true
 closes_at_end s =
     cond_both (s.lines == 0) (closes (bad_line 1 (Header [])) Refused) (closes [] Good) (λ told. told.closed ≡ true) (λ _. refl) (λ _. refl)
 
@@ -65,11 +65,11 @@ module _ {H : Type 0} (keeping : Keeping H) where
   line_finds s text (line.Name name id) = tt
   line_finds s text (line.Ledger name parent header) = tt
   line_finds s text (line.At at) = tt
-  line_finds s text (line.Event e) = outcomes_find (outcomes (world_of s.running) e) (happened keeping s e) text
+  line_finds s text (line.Event e) = outcomes_find (outcomes (world_of s.running) e) (after_event keeping s e) text
 
   answer_finds : (s : Writing H) (bytes : List ℕ) (ended : Bool) (a : LineAnswer) → FindsNothing (after_answer keeping s bytes ended a)
   answer_finds s bytes ended (passes reading) = tt
-  answer_finds s bytes ended (gives l reading) = line_finds (counted s reading) (written (copied bytes ended)) l
+  answer_finds s bytes ended (gives l reading) = line_finds (with_line_counted s reading) (as_line (copied bytes ended)) l
   answer_finds s bytes ended (refuses why) = tt
 
   pub finds_at_end : FindsAtEnd (rules keeping)

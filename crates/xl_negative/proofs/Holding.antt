@@ -40,9 +40,9 @@ use Rattle.xl_running.proofs.Naming.{AnswerNames, AreNames, StandsForOne}
 use Rattle.xl_running.proofs.Sounding.{IsSound, declares_sound, happens_sound, knows_sound}
 use Rattle.xl_negative.specs.Hearing.{heard_at}
 use Rattle.xl_negative.specs.Laws.{ByList, IsInForce, IsLawful, full_at, read_on, runs, texts}
-use Rattle.xl_negative.specs.Listing.{listed}
+use Rattle.xl_negative.specs.Listing.{list_keeping}
 use Rattle.xl_negative.specs.Seats.{after_what, hears, members_of, seat_at, with_leaving_out, with_listing}
-use Rattle.xl_negative.specs.Writing.{Change, added, after_answer, after_line, after_outcome, after_outcomes, and_then, change_at, change_by, change_of, change_to, copied, counted, flag_in, goes_over, happened, is_flag, ledgers_at, ledgers_in, takes, with_running, written}
+use Rattle.xl_negative.specs.Writing.{Change, step_adding, after_answer, after_line, after_outcome, after_outcomes, and_then, change_at, change_by, change_of, change_to, copied, with_line_counted, flag_in, goes_over, after_event, is_flag, ledgers_at, ledgers_in, takes, with_running, as_line}
 use Rattle.xl_negative.proofs.Lawful.{after_both, change_lawful}
 use Rattle.xl_negative.proofs.LawfulSeats.{AreLawful, ListSeat, hears_lawful, leaving_full, leaving_lawful, listed_lawful, listing_full, seat_lawful, what_lawful}
 use Rattle.xl_negative.proofs.OneLine.{one_copied, one_plain}
@@ -70,24 +70,24 @@ pub ran_then : {r mid after : Running} (text more : List ℕ) → Ran r text mid
 ran_then {r = r} text more x y = record {
   lines = x.lines ++ y.lines;
   one = All-append IsOneLine x.lines y.lines x.one y.one;
-  text = ap (λ xs. xs ++ more) x.text ∙ ap (λ xs. texts x.lines ++ xs) y.text ∙ sym (flat_map-append written x.lines y.lines);
+  text = ap (λ xs. xs ++ more) x.text ∙ ap (λ xs. texts x.lines ++ xs) y.text ∙ sym (flat_map-append as_line x.lines y.lines);
   leads = runs_both r x.lines y.lines ∙ ap (option_and_then (λ next. runs next y.lines)) x.leads ∙ y.leads;
 }
 
 pub ran_nothing : (r : Running) → Ran r [] r
 ran_nothing r = record { lines = []; one = All-nil IsOneLine; text = refl; leads = refl }
 
-ran_line : (r after : Running) (bytes : List ℕ) → IsOneLine bytes → read_on r (answer_in r bytes) ≡ Some after → Ran r (written bytes) after
+ran_line : (r after : Running) (bytes : List ℕ) → IsOneLine bytes → read_on r (answer_in r bytes) ≡ Some after → Ran r (as_line bytes) after
 ran_line r after bytes one reads = record {
   lines = bytes ∷ [];
   one = All-cons IsOneLine bytes [] one (All-nil IsOneLine);
-  text = sym (append-nil (written bytes));
+  text = sym (append-nil (as_line bytes));
   leads = ap (option_and_then (λ next. runs next [])) reads;
 }
 
 -- a line of the input is read as it was, also if a return at the end of the input is left out
 ran_copied : (r : Running) (bytes : List ℕ) (ended : Bool) (a : LineAnswer) → IsOneLine bytes → AreNames r.reading.names → answer_in r bytes ≡ a → IsTaken a → (after : Running) → read_on r a ≡ Some after →
-    Ran r (written (copied bytes ended)) after
+    Ran r (as_line (copied bytes ended)) after
 ran_copied r bytes ended a one names is taken after leads =
     let spelled : AreSpelled r.reading.names = All-weaker (StandsForOne r.reading.names) (λ n. is_name n.name ≡ true) (λ n stands. stands.spelled) r.reading.names names in
     let same : answer_in r (copied bytes ended) ≡ a =
@@ -137,9 +137,9 @@ module _ (r : Running) (sound : IsSound r) (k seq : ℕ) (id : LedgerId) (f : �
       by_place w (subst (λ (o : Option World). IsRun (unwrap_or o (start r.shared r.liars r.plan))) at sound.is_run) (place_at k w.places) refl known
 
 module _ (s : ByList) (good : IsGood s) (k : ℕ) where
-  change_is : IsMember k → (full : TrustedList) → full_at s k ≡ Some full → (scores : List ℕ) → IfSome (change_of full.members (seat_at listed s.seats k).negative scores k) (IsChange s k)
+  change_is : IsMember k → (full : TrustedList) → full_at s k ≡ Some full → (scores : List ℕ) → IfSome (change_of full.members (seat_at list_keeping s.seats k).negative scores k) (IsChange s k)
   change_is member full has scores =
-      let negative : List ℕ = (seat_at listed s.seats k).negative in
+      let negative : List ℕ = (seat_at list_keeping s.seats k).negative in
       let there = seat_lawful s.seats good.seats k in
       let valid : IsValid full = subst (λ (o : Option TrustedList). IfSome o IsValid) has there.valid in
       let is : IsNegative full.members negative = subst (λ (o : Option TrustedList). IsNegative (members_of o) negative) has there.negative in
@@ -158,16 +158,16 @@ module _ (s : ByList) (good : IsGood s) (k : ℕ) where
       (λ _. tt)
 
   by_full : (ledgers : List Header) (flag : Option ℕ) → (((f : ℕ) → flag ≡ Some f → IsMember k)) → (o : Option TrustedList) → full_at s k ≡ o →
-      IfSome (change_by listed (seat_at listed s.seats k) k ledgers flag o) (IsChange s k)
+      IfSome (change_by list_keeping (seat_at list_keeping s.seats k) k ledgers flag o) (IsChange s k)
   by_full ledgers None member o has = tt
   by_full ledgers (Some f) member None has = tt
-  by_full ledgers (Some f) member (Some full) has = change_is (member f refl) full has (listed.scores ledgers (seat_at listed s.seats k).heard f)
+  by_full ledgers (Some f) member (Some full) has = change_is (member f refl) full has (list_keeping.scores ledgers (seat_at list_keeping s.seats k).heard f)
 
   -- what a node changes at a report is a change
-  changes : (seq : ℕ) (id : LedgerId) → IfSome (change_at listed (seat_at listed s.seats k) k (ledgers_at s.running.world k) seq id) (IsChange s k)
+  changes : (seq : ℕ) (id : LedgerId) → IfSome (change_at list_keeping (seat_at list_keeping s.seats k) k (ledgers_at s.running.world k) seq id) (IsChange s k)
   changes seq id =
       let ledgers : List Header = ledgers_at s.running.world k in
-      cond_both (is_flag seq) (change_by listed (seat_at listed s.seats k) k ledgers (flag_in ledgers seq id) (full_at s k)) None (λ c. IfSome c (IsChange s k))
+      cond_both (is_flag seq) (change_by list_keeping (seat_at list_keeping s.seats k) k ledgers (flag_in ledgers seq id) (full_at s k)) None (λ c. IfSome c (IsChange s k))
       (λ _. by_full ledgers (flag_in ledgers seq id) (λ f known. by_world s.running good.sound k seq id f s.running.world refl known) (full_at s k) refl)
       (λ _. tt)
 
@@ -207,11 +207,11 @@ module _ (i : ℕ) (full : TrustedList) (o : Option TrustedList) (lists : List I
         ),
       )
 
-  over_holds : (s : ByList) (text : List ℕ) (k : ℕ) (o' : Option Change) → Holds i full o lists before text s → IfSome o' (IsChange s k) → AfterStep (Holds i full o lists before) (goes_over listed s text k o')
+  over_holds : (s : ByList) (text : List ℕ) (k : ℕ) (o' : Option Change) → Holds i full o lists before text s → IfSome o' (IsChange s k) → AfterStep (Holds i full o lists before) (goes_over list_keeping s text k o')
   over_holds s text k None hold change = hold
   over_holds s text k (Some c) hold change =
       let r : Running = s.running in
-      let next : ByList = record s { seats = with_leaving_out listed s.seats k c.negative } in
+      let next : ByList = record s { seats = with_leaving_out list_keeping s.seats k c.negative } in
       let l : Line = list_line r.reading k c.list in
       let e : Event = record { at = r.reading.now; what = what.List k c.list } in
       let known : Reading = after r.reading l in
@@ -219,9 +219,9 @@ module _ (i : ℕ) (full : TrustedList) (o : Option TrustedList) (lists : List I
       let read = list_line-read r.reading (length (world_of r).sent) k c.list change.member.least change.member.greatest change.lawful.valid in
       elim read.answer [
         | inl said ↦
-            subst (λ (a : LineAnswer). AfterStep (Holds i full o lists before) (added next text bytes a)) (sym said)
+            subst (λ (a : LineAnswer). AfterStep (Holds i full o lists before) (step_adding next text bytes a)) (sym said)
             (record {
-              ran = ran_then text (written bytes) hold.ran (ran_line r _ bytes (one_plain bytes read.plain) (ap (read_on r) said));
+              ran = ran_then text (as_line bytes) hold.ran (ran_line r _ bytes (one_plain bytes read.plain) (ap (read_on r) said));
               good = record {
                 sound = happens_sound (knows r known) e change.lawful.valid (knows_sound r known hold.good.sound);
                 seats = leaving_lawful s.seats hold.good.seats k c.negative (subst (λ (f : Option TrustedList). IsNegative (members_of f) c.negative) (sym change.has) change.lawful.negative);
@@ -230,15 +230,15 @@ module _ (i : ℕ) (full : TrustedList) (o : Option TrustedList) (lists : List I
               full = leaving_full s.seats k i c.negative ∙ hold.full;
               lists = λ only has. event_lists (IsOf i full) (world_of r) e (forced s k c change hold.full only) (hold.lists only has);
             })
-        | inr (why, refused) ↦ subst (λ (a : LineAnswer). AfterStep (Holds i full o lists before) (added next text bytes a)) (sym refused) tt
+        | inr (why, refused) ↦ subst (λ (a : LineAnswer). AfterStep (Holds i full o lists before) (step_adding next text bytes a)) (sym refused) tt
       ]
 
-  outcome_holds : (s : ByList) (text : List ℕ) (x : Outcome) → Holds i full o lists before text s → AfterStep (Holds i full o lists before) (after_outcome listed s text x)
+  outcome_holds : (s : ByList) (text : List ℕ) (x : Outcome) → Holds i full o lists before text s → AfterStep (Holds i full o lists before) (after_outcome list_keeping s text x)
   outcome_holds s text (outcome.Switched k seq id) hold = hold
   outcome_holds s text (outcome.Built k seq id issued) hold = hold
   outcome_holds s text (outcome.Refused k why) hold = hold
   outcome_holds s text (outcome.Full k seq id) hold =
-      over_holds s text k (change_at listed (seat_at listed s.seats k) k (ledgers_at s.running.world k) seq id) hold (changes s hold.good k seq id)
+      over_holds s text k (change_at list_keeping (seat_at list_keeping s.seats k) k (ledgers_at s.running.world k) seq id) hold (changes s hold.good k seq id)
   outcome_holds s text (outcome.Preferred k ledger) hold = hold
   outcome_holds s text (outcome.Heard k member id) hold = hold
 
@@ -249,10 +249,10 @@ module _ (i : ℕ) (full : TrustedList) (o : Option TrustedList) (lists : List I
   then_holds further still (stops text) hold = tt
   then_holds further still (finds text) hold = tt
 
-  outcomes_hold : (os : List Outcome) (s : ByList) (text : List ℕ) → Holds i full o lists before text s → AfterStep (Holds i full o lists before) (after_outcomes listed s text os)
+  outcomes_hold : (os : List Outcome) (s : ByList) (text : List ℕ) → Holds i full o lists before text s → AfterStep (Holds i full o lists before) (after_outcomes list_keeping s text os)
   outcomes_hold [] s text hold = hold
   outcomes_hold (x ∷ os) s text hold =
-      then_holds (λ next more. after_outcomes listed next more os) (λ next more holds. outcomes_hold os next more holds) (after_outcome listed s text x) (outcome_holds s text x hold)
+      then_holds (λ next more. after_outcomes list_keeping next more os) (λ next more holds. outcomes_hold os next more holds) (after_outcome list_keeping s text x) (outcome_holds s text x hold)
 
 -- A LINE OF THE INPUT
 
@@ -269,14 +269,14 @@ held i full o lists before (finds text) hold = tt
 
 module _ (i : ℕ) (most : i ≤ 64) (full : TrustedList) where
   -- who is given a list has it then
-  given : (seats : List ListSeat) → AreLawful seats → (k : ℕ) (list : TrustedList) → IsValid list → HasOnly full (seat_at listed (with_listing listed seats k list) i).full → IsOf i full k list
+  given : (seats : List ListSeat) → AreLawful seats → (k : ℕ) (list : TrustedList) → IsValid list → HasOnly full (seat_at list_keeping (with_listing list_keeping seats k list) i).full → IsOf i full k list
   given seats are k list valid only same =
-      let there : (seat_at listed (with_listing listed seats k list) i).full ≡ Some list =
-      subst (λ (m : ℕ). (seat_at listed (with_listing listed seats m list) i).full ≡ Some list) (sym same) (listing_full seats i list are.long most) in
+      let there : (seat_at list_keeping (with_listing list_keeping seats k list) i).full ≡ Some list =
+      subst (λ (m : ℕ). (seat_at list_keeping (with_listing list_keeping seats m list) i).full ≡ Some list) (sym same) (listing_full seats i list are.long most) in
       let its : list ≡ full = subst (HasOnly full) there only in
       (subst IsValid its valid, inl its)
 
-  given_by : (seats : List ListSeat) → AreLawful seats → (w : What) → IsPlausible w → HasOnly full (seat_at listed (after_what listed seats w) i).full → IfListed (IsOf i full) w
+  given_by : (seats : List ListSeat) → AreLawful seats → (w : What) → IsPlausible w → HasOnly full (seat_at list_keeping (after_what list_keeping seats w) i).full → IfListed (IsOf i full) w
   given_by seats are (what.Ask ask) plausible only = tt
   given_by seats are what.Timers plausible only = tt
   given_by seats are (what.Submit node tx) plausible only = tt
@@ -307,7 +307,7 @@ module _ (i : ℕ) (most : i ≤ 64) (full : TrustedList) where
   }
 
   line_holds : (before : Running) (names : List Named) (s : ByList) (text : List ℕ) (l : Line) → IsGood s → Declares names l → Ran before text (takes s.running l) →
-      AfterStep (Held i full (world_of s.running).lists before) (after_line listed s text l)
+      AfterStep (Held i full (world_of s.running).lists before) (after_line list_keeping s text l)
   line_holds before names s text (line.Limit limit) good is ran = declares_holds before names s text (line.Limit limit) good is tt ran
   line_holds before names s text (line.Speak version) good is ran = declares_holds before names s text (line.Speak version) good is tt ran
   line_holds before names s text (line.Node me list validating) good is ran = record {
@@ -320,11 +320,11 @@ module _ (i : ℕ) (most : i ≤ 64) (full : TrustedList) where
   line_holds before names s text (line.Ledger name parent header) good is ran = declares_holds before names s text (line.Ledger name parent header) good is tt ran
   line_holds before names s text (line.At at) good is ran = declares_holds before names s text (line.At at) good is tt ran
   line_holds before names s text (line.Event e) good is ran =
-      let heard : List ListSeat = hears listed s.seats (heard_at (world_of s.running) e) in
+      let heard : List ListSeat = hears list_keeping s.seats (heard_at (world_of s.running) e) in
       let are : AreLawful heard = hears_lawful (heard_at (world_of s.running) e) s.seats good.seats in
-      let next : ByList = happened listed s e in
+      let next : ByList = after_event list_keeping s e in
       let lists : List InForce = (world_of s.running).lists in
-      held i full (full_at next i) lists before (after_outcomes listed next text (outcomes (world_of s.running) e))
+      held i full (full_at next i) lists before (after_outcomes list_keeping next text (outcomes (world_of s.running) e))
       (outcomes_hold i full (full_at next i) lists before (outcomes (world_of s.running) e) next text
       (record {
         ran = ran;
@@ -334,13 +334,13 @@ module _ (i : ℕ) (most : i ≤ 64) (full : TrustedList) where
       }))
 
   pub answer_holds : (s : ByList) (bytes : List ℕ) (ended : Bool) (a : LineAnswer) → IsOneLine bytes → IsGood s → AnswerDeclares s.running.reading.names a → AnswerNames a → answer_in s.running bytes ≡ a →
-      AfterStep (Held i full (world_of s.running).lists s.running) (after_answer listed s bytes ended a)
+      AfterStep (Held i full (world_of s.running).lists s.running) (after_answer list_keeping s bytes ended a)
   answer_holds s bytes ended (passes reading) one good declares_it names is = record {
     ran = ran_copied s.running bytes ended (passes reading) one good.names is tt _ refl;
     good = record { sound = knows_sound s.running reading good.sound; seats = good.seats; names = names };
     lists = λ only has. has;
   }
   answer_holds s bytes ended (gives l reading) one good declares_it names is =
-      line_holds s.running s.running.reading.names (counted s reading) (written (copied bytes ended)) l (record { sound = knows_sound s.running reading good.sound; seats = good.seats; names = names }) declares_it
+      line_holds s.running s.running.reading.names (with_line_counted s reading) (as_line (copied bytes ended)) l (record { sound = knows_sound s.running reading good.sound; seats = good.seats; names = names }) declares_it
       (ran_copied s.running bytes ended (gives l reading) one good.names is tt _ refl)
   answer_holds s bytes ended (refuses why) one good declares_it names is = tt

@@ -6,8 +6,8 @@ use Rattle.xl_base.specs.Refusals.{unless_refused}
 use Rattle.xl_lists.specs.declared.refusal.ListRefusal.{ListRefusal}
 use Rattle.xl_lists.specs.Lists.{TrustedList, IsValid, list_of, refusal_of}
 use Rattle.xl_lists.proofs.Rereading.{unrefused}
-use Rattle.xl_nunl.specs.Lists.{IsNegative, list_without, staying}
-use Rattle.xl_nunl.specs.Deciding.{hears_little, joined_of, joining, leaving, left_of, negative_after, without}
+use Rattle.xl_nunl.specs.Lists.{IsNegative, list_without, staying_members}
+use Rattle.xl_nunl.specs.Deciding.{hears_little, joined_of, joining_member, leaving_member, left_of, negative_after, without}
 use Rattle.xl_nunl.proofs.Negative.{negative_stays}
 use Rattle.xl_nunl.proofs.Staying.{stays_lawful, stays_list}
 use Rattle.xl_negative.specs.Laws.{ChangesAreLawful, IsLawful}
@@ -23,14 +23,14 @@ list_valid members quorum x made = made_valid (refusal_of members quorum) _ x ma
 
 -- a node that hears too little of itself changes nothing
 pub after_both : (full negative scores : List ℕ) (i : ℕ) → IsNegative full negative → (little : Bool) →
-    IsNegative full (negative_after negative (cond little None (leaving negative scores)) (cond little None (joining full (without negative (leaving negative scores)) scores i)))
+    IsNegative full (negative_after negative (cond little None (leaving_member negative scores)) (cond little None (joining_member full (without negative (leaving_member negative scores)) scores i)))
 after_both full negative scores i is true = is
-after_both full negative scores i is false = negative_stays full negative scores i (leaving negative scores) is
+after_both full negative scores i is false = negative_stays full negative scores i (leaving_member negative scores) is
 
 pub change_lawful : (full : TrustedList) (negative : List ℕ) → IsValid full → IsNegative full.members negative → IsLawful full.members (change_to full.members negative)
 change_lawful full negative valid is = record {
   negative = is;
-  valid = list_valid (staying full.members negative) _ (list_without full.members negative) (stays_list full negative valid is (staying full.members negative) _ refl refl);
+  valid = list_valid (staying_members full.members negative) _ (list_without full.members negative) (stays_list full negative valid is (staying_members full.members negative) _ refl refl);
   in_force = stays_lawful full negative valid is;
 }
 

@@ -23,7 +23,7 @@ use Rattle.xl_running.proofs.Declaring.{reading_declares}
 use Rattle.xl_running.proofs.Naming.{reading_names, root_names}
 use Rattle.xl_running.proofs.Sounding.{first_sound}
 use Rattle.xl_negative.specs.Laws.{ByList, HasOneList, IsInForce, ListsAreInForce, ReportsAgree, WrittenRuns, full_at, led_by, ran_by, ran_from}
-use Rattle.xl_negative.specs.Listing.{listed}
+use Rattle.xl_negative.specs.Listing.{list_keeping}
 use Rattle.xl_negative.specs.Writing.{at_first, rules}
 use Rattle.xl_negative.proofs.Holding.{AfterStep, HasOnly, Held, IsGood, IsOf, Ran, answer_holds, ran_nothing, ran_then}
 use Rattle.xl_negative.proofs.InForce.{lists_enough}
@@ -34,17 +34,17 @@ use Rattle.xl_negative.proofs.Setting.{OfInForce}
 abbrev IsOne : InputLine → Type 0
 IsOne l = IsOneLine l.bytes
 
-first_good : IsGood (at_first listed)
+first_good : IsGood (at_first list_keeping)
 first_good = record { sound = first_sound; seats = first_lawful; names = root_names }
 
 step_holds : (i : ℕ) → i ≤ 64 → (full : TrustedList) (left : ℕ) (s : ByList) (l : InputLine) → IsOne l → IsGood s →
-    AfterStep (Held i full (world_of s.running).lists s.running) (step_at limits (rules listed) left s l)
+    AfterStep (Held i full (world_of s.running).lists s.running) (step_at limits (rules list_keeping) left s l)
 step_holds i most full left s l one good =
     let bytes : List ℕ = content limits.returns l in
     let After : Step ByList → Type 0 = AfterStep (Held i full (world_of s.running).lists s.running) in
-    cond_both (nat_lt limits.bytes (length l.bytes)) (stops ((rules listed).overrun s LongLine)) (step_within (rules listed) left s bytes l.ended) After
+    cond_both (nat_lt limits.bytes (length l.bytes)) (stops ((rules list_keeping).overrun s LongLine)) (step_within (rules list_keeping) left s bytes l.ended) After
     (λ _. tt)
-    (λ _. cond_both (nat_lt 0 left) ((rules listed).step s bytes l.ended) (stops ((rules listed).overrun s ManyLines)) After
+    (λ _. cond_both (nat_lt 0 left) ((rules list_keeping).step s bytes l.ended) (stops ((rules list_keeping).overrun s ManyLines)) After
     (λ _. answer_holds i most full s bytes l.ended (answer_in s.running bytes) (one_content l one) good (reading_declares s.running.reading (length (world_of s.running).sent) bytes)
     (reading_names s.running.reading (length (world_of s.running).sent) bytes good.names) refl) (λ _. tt))
 
@@ -55,28 +55,28 @@ abbrev none : TrustedList
 none = record { members = []; quorum = 0 }
 
 abbrev Leads : ℕ → ByList → List InputLine → Type 0
-Leads left s ls = (after : ByList) × (ran_from left s ls ≡ Some after) × Ran s.running (told_from limits (rules listed) left s ls).text after.running
+Leads left s ls = (after : ByList) × (ran_from left s ls ≡ Some after) × Ran s.running (told_from limits (rules list_keeping) left s ls).text after.running
 
-told_leads : (left : ℕ) (s : ByList) (ls : List InputLine) → All IsOne ls → IsGood s → (told_from limits (rules listed) left s ls).verdict ≡ Good → Leads left s ls
+told_leads : (left : ℕ) (s : ByList) (ls : List InputLine) → All IsOne ls → IsGood s → (told_from limits (rules list_keeping) left s ls).verdict ≡ Good → Leads left s ls
 unfolding told_by led_by
 told_leads left s [] one is good =
     cond_both (s.lines == 0) (closes (bad_line 1 (Header [])) Refused) (closes [] Good) (λ told. told.verdict ≡ Good → (after : ByList) × (Some s ≡ Some after) × Ran s.running told.text after.running)
     (λ _ never. absurd cc) (λ _ _. (s, refl, ran_nothing s.running)) good
 told_leads left s (l ∷ ls) one is good =
-    by_step (step_at limits (rules listed) left s l) (λ next its well. told_leads (left - 1) next ls (All-tail IsOne l ls one) its well)
+    by_step (step_at limits (rules list_keeping) left s l) (λ next its well. told_leads (left - 1) next ls (All-tail IsOne l ls one) its well)
     (step_holds 0 (omega arith) none left s l (All-head IsOne l ls one) is) good
   where
-    by_step : (step : Step ByList) → ((next : ByList) → IsGood next → (told_from limits (rules listed) (left - 1) next ls).verdict ≡ Good → Leads (left - 1) next ls) → AfterStep (Held 0 none (world_of s.running).lists s.running) step → (told_by (λ next. told_from limits (rules listed) (left - 1) next ls) step).verdict ≡ Good
-        → (after : ByList) × (led_by (λ next. ran_from (left - 1) next ls) step ≡ Some after) × Ran s.running (told_by (λ next. told_from limits (rules listed) (left - 1) next ls) step).text after.running
+    by_step : (step : Step ByList) → ((next : ByList) → IsGood next → (told_from limits (rules list_keeping) (left - 1) next ls).verdict ≡ Good → Leads (left - 1) next ls) → AfterStep (Held 0 none (world_of s.running).lists s.running) step → (told_by (λ next. told_from limits (rules list_keeping) (left - 1) next ls) step).verdict ≡ Good
+        → (after : ByList) × (led_by (λ next. ran_from (left - 1) next ls) step ≡ Some after) × Ran s.running (told_by (λ next. told_from limits (rules list_keeping) (left - 1) next ls) step).text after.running
     by_step (goes_on text next) still holds well =
         let rest = still next holds.good well in
-        (rest.0, rest.1, ran_then text (told_from limits (rules listed) (left - 1) next ls).text holds.ran rest.2)
+        (rest.0, rest.1, ran_then text (told_from limits (rules list_keeping) (left - 1) next ls).text holds.ran rest.2)
     by_step (stops text) still holds well = absurd cc
     by_step (finds text) still holds well = absurd cc
 
 pub law_of_written_runs : WrittenRuns
 law_of_written_runs bytes good =
-    let leads = told_leads limits.lines (at_first listed) (lines_of bytes) (all_one bytes) first_good good in
+    let leads = told_leads limits.lines (at_first list_keeping) (lines_of bytes) (all_one bytes) first_good good in
     let ran = leads.2 in
     (leads.0, leads.1, record { lines = ran.lines; text = ran.text; cut = ap lines_of ran.text ∙ cut_again ran.lines ran.one; leads = ran.leads })
 
@@ -96,7 +96,7 @@ module _ (i : ℕ) (most : i ≤ 64) (full : TrustedList) where
       let same : s ≡ after = cc in
       subst (Forced i full) same forced
   lists_hold left s (l ∷ ls) one is forced only after ends =
-      by_step (step_at limits (rules listed) left s l)
+      by_step (step_at limits (rules list_keeping) left s l)
       (λ next its forced_then still ends_so. lists_hold (left - 1) next ls (All-tail IsOne l ls one) its forced_then still after ends_so)
       (step_holds i most full left s l (All-head IsOne l ls one) is) (λ n. only (suc n)) ends
     where
@@ -112,7 +112,7 @@ good_after left s [] one is after ends =
     let same : s ≡ after = cc in
     subst IsGood same is
 good_after left s (l ∷ ls) one is after ends =
-    by_step (step_at limits (rules listed) left s l) (λ next its ends_so. good_after (left - 1) next ls (All-tail IsOne l ls one) its after ends_so)
+    by_step (step_at limits (rules list_keeping) left s l) (λ next its ends_so. good_after (left - 1) next ls (All-tail IsOne l ls one) its after ends_so)
     (step_holds 0 (omega arith) none left s l (All-head IsOne l ls one) is) ends
   where
     by_step : (step : Step ByList) → ((next : ByList) → IsGood next → ran_from (left - 1) next ls ≡ Some after → IsGood after) → AfterStep (Held 0 none (world_of s.running).lists s.running) step → led_by (λ next. ran_from (left - 1) next ls) step ≡ Some after → IsGood after
@@ -122,7 +122,7 @@ good_after left s (l ∷ ls) one is after ends =
 
 forced_after : (bytes : List ℕ) (full : TrustedList) (i : ℕ) (after : ByList) → ran_by bytes ≡ Some after → i ≤ 64 → HasOneList bytes i full → Forced i full after
 forced_after bytes full i after ends most only =
-    lists_hold i most full limits.lines (at_first listed) (lines_of bytes) (all_one bytes) first_good (All-nil (OfInForce (IsOf i full))) only after ends
+    lists_hold i most full limits.lines (at_first list_keeping) (lines_of bytes) (all_one bytes) first_good (All-nil (OfInForce (IsOf i full))) only after ends
 
 pub lists_in_force : ListsAreInForce
 lists_in_force bytes full i after ends least most only =
@@ -138,7 +138,7 @@ module _ (bytes : List ℕ) (full : TrustedList) (i : ℕ) (after : ByList) (end
 pub reports_agree : ReportsAgree
 reports_agree bytes full i j after ends only_i only_j least few none_forged =
     let w : World = world_of after.running in
-    let good : IsGood after = good_after limits.lines (at_first listed) (lines_of bytes) (all_one bytes) first_good after ends in
+    let good : IsGood after = good_after limits.lines (at_first list_keeping) (lines_of bytes) (all_one bytes) first_good after ends in
     let enough : EnoughAt w.liars w.reports i j = λ k d k_in l e l_in of_i of_j _.
     let r : Reported = slice_index_or w.reports k d in
     let q : Reported = slice_index_or w.reports l e in

@@ -13,9 +13,9 @@ use Rattle.xl_sched.specs.declared.event.What.{What}
 use Rattle.xl_sched.specs.declared.event.What.TheVariants as what
 use Rattle.xl_world.specs.Schedule.{node_asked}
 use Rattle.xl_negative.specs.declared.hearing.Heard.{Heard}
-use Rattle.xl_negative.specs.Listing.{listed, scores_of}
-use Rattle.xl_negative.specs.Ringing.{Places, kept_scores, ringed}
-use Rattle.xl_negative.specs.Seats.{Seat, after_what, empty_seat, forgetting, hearing, hears, leaving_out, listing, no_seats, seat_at, with_forgetting, with_hearing, with_leaving_out, with_listing}
+use Rattle.xl_negative.specs.Listing.{list_keeping, scores_of}
+use Rattle.xl_negative.specs.Ringing.{Places, kept_scores, ring_keeping}
+use Rattle.xl_negative.specs.Seats.{Seat, after_what, empty_seat, seat_anew, after_hearing, hears, leaving_out, with_full_list, no_seats, seat_at, with_forgetting, with_hearing, with_leaving_out, with_listing}
 use Rattle.xl_negative.specs.Writing.{Change, change_at, change_by, change_of, flag_in, is_flag}
 
 -- ONE SEAT
@@ -25,17 +25,17 @@ pub record StandsFor (p : Seat Places) (q : Seat (List SaidLedger)) : Type 0 whe
   pub negative : p.negative ≡ q.negative
   pub heard : IsKept p.heard q.heard
 
-empty_stands : StandsFor (empty_seat ringed) (empty_seat listed)
+empty_stands : StandsFor (empty_seat ring_keeping) (empty_seat list_keeping)
 empty_stands = record { full = refl; negative = refl; heard = rings.begun }
 
 module _ (p : Seat Places) (q : Seat (List SaidLedger)) (is : StandsFor p q) where
-  hearing_stands : (said : SaidLedger) → StandsFor (hearing ringed p said) (hearing listed q said)
+  hearing_stands : (said : SaidLedger) → StandsFor (after_hearing ring_keeping p said) (after_hearing list_keeping q said)
   hearing_stands said = record { full = is.full; negative = is.negative; heard = rings.goes_on p.heard q.heard said is.heard }
 
-  forgetting_stands : StandsFor (forgetting ringed p) (forgetting listed q)
+  forgetting_stands : StandsFor (seat_anew ring_keeping p) (seat_anew list_keeping q)
   forgetting_stands = record { full = is.full; negative = is.negative; heard = rings.begun }
 
-  listing_stands : (list : TrustedList) → StandsFor (listing p list) (listing q list)
+  listing_stands : (list : TrustedList) → StandsFor (with_full_list p list) (with_full_list q list)
   listing_stands list = record { full = refl; negative = refl; heard = is.heard }
 
   leaving_stands : (negative : List ℕ) → StandsFor (leaving_out p negative) (leaving_out q negative)
@@ -57,17 +57,17 @@ scores_same ledgers places heard flag is = scored_same ledgers places heard flag
 
 -- what a node changes
 module _ (p : Seat Places) (q : Seat (List SaidLedger)) (is : StandsFor p q) (i : ℕ) (ledgers : List Header) where
-  by_same : (flag : Option ℕ) (full : Option TrustedList) → change_by ringed p i ledgers flag full ≡ change_by listed q i ledgers flag full
+  by_same : (flag : Option ℕ) (full : Option TrustedList) → change_by ring_keeping p i ledgers flag full ≡ change_by list_keeping q i ledgers flag full
   by_same None full = refl
   by_same (Some flag) None = refl
   by_same (Some flag) (Some full) =
       ap (λ (negative : List ℕ). change_of full.members negative (kept_scores ledgers p.heard flag) i) is.negative
       ∙ ap (λ (scores : List ℕ). change_of full.members q.negative scores i) (scores_same ledgers p.heard q.heard flag is.heard)
 
-  pub change_same : (seq : ℕ) (id : LedgerId) → change_at ringed p i ledgers seq id ≡ change_at listed q i ledgers seq id
+  pub change_same : (seq : ℕ) (id : LedgerId) → change_at ring_keeping p i ledgers seq id ≡ change_at list_keeping q i ledgers seq id
   change_same seq id =
       ap (λ (c : Option Change). cond (is_flag seq) c None)
-      (by_same (flag_in ledgers seq id) p.full ∙ ap (change_by listed q i ledgers (flag_in ledgers seq id)) is.full)
+      (by_same (flag_in ledgers seq id) p.full ∙ ap (change_by list_keeping q i ledgers (flag_in ledgers seq id)) is.full)
 
 -- ALL SEATS
 
@@ -77,15 +77,15 @@ AllStandFor [] (q ∷ qs) = ⊥
 AllStandFor (p ∷ ps) [] = ⊥
 AllStandFor (p ∷ ps) (q ∷ qs) = StandsFor p q × AllStandFor ps qs
 
-none_stand : (n : ℕ) → AllStandFor (replicate n (empty_seat ringed)) (replicate n (empty_seat listed))
+none_stand : (n : ℕ) → AllStandFor (replicate n (empty_seat ring_keeping)) (replicate n (empty_seat list_keeping))
 none_stand zero = tt
 none_stand (suc n) = (empty_stands, none_stand n)
 
-pub first_stand : AllStandFor (no_seats ringed) (no_seats listed)
+pub first_stand : AllStandFor (no_seats ring_keeping) (no_seats list_keeping)
 unfolding no_seats
 first_stand = none_stand 64
 
-there_stands : (ps : List (Seat Places)) (qs : List (Seat (List SaidLedger))) → AllStandFor ps qs → (k : ℕ) → StandsFor (get_or ps k (empty_seat ringed)) (get_or qs k (empty_seat listed))
+there_stands : (ps : List (Seat Places)) (qs : List (Seat (List SaidLedger))) → AllStandFor ps qs → (k : ℕ) → StandsFor (get_or ps k (empty_seat ring_keeping)) (get_or qs k (empty_seat list_keeping))
 there_stands [] [] stand k = empty_stands
 there_stands [] (q ∷ qs) stand k = absurd stand
 there_stands (p ∷ ps) [] stand k = absurd stand
@@ -100,22 +100,22 @@ set_stand (x ∷ ps) (y ∷ qs) stand zero p q is = (is, stand.1)
 set_stand (x ∷ ps) (y ∷ qs) stand (suc k) p q is = (stand.0, set_stand ps qs stand.1 k p q is)
 
 module _ (ps : List (Seat Places)) (qs : List (Seat (List SaidLedger))) (stand : AllStandFor ps qs) where
-  pub seat_stands : (i : ℕ) → StandsFor (seat_at ringed ps i) (seat_at listed qs i)
+  pub seat_stands : (i : ℕ) → StandsFor (seat_at ring_keeping ps i) (seat_at list_keeping qs i)
   seat_stands i = there_stands ps qs stand (i - 1)
 
-  hearing_stand : (h : Heard) → AllStandFor (with_hearing ringed ps h) (with_hearing listed qs h)
-  hearing_stand h = set_stand ps qs stand (h.node - 1) _ _ (hearing_stands (seat_at ringed ps h.node) (seat_at listed qs h.node) (seat_stands h.node) h.said)
+  hearing_stand : (h : Heard) → AllStandFor (with_hearing ring_keeping ps h) (with_hearing list_keeping qs h)
+  hearing_stand h = set_stand ps qs stand (h.node - 1) _ _ (hearing_stands (seat_at ring_keeping ps h.node) (seat_at list_keeping qs h.node) (seat_stands h.node) h.said)
 
-  forgetting_stand : (i : ℕ) → AllStandFor (with_forgetting ringed ps i) (with_forgetting listed qs i)
-  forgetting_stand i = set_stand ps qs stand (i - 1) _ _ (forgetting_stands (seat_at ringed ps i) (seat_at listed qs i) (seat_stands i))
+  forgetting_stand : (i : ℕ) → AllStandFor (with_forgetting ring_keeping ps i) (with_forgetting list_keeping qs i)
+  forgetting_stand i = set_stand ps qs stand (i - 1) _ _ (forgetting_stands (seat_at ring_keeping ps i) (seat_at list_keeping qs i) (seat_stands i))
 
-  pub listing_stand : (i : ℕ) (list : TrustedList) → AllStandFor (with_listing ringed ps i list) (with_listing listed qs i list)
-  listing_stand i list = set_stand ps qs stand (i - 1) _ _ (listing_stands (seat_at ringed ps i) (seat_at listed qs i) (seat_stands i) list)
+  pub listing_stand : (i : ℕ) (list : TrustedList) → AllStandFor (with_listing ring_keeping ps i list) (with_listing list_keeping qs i list)
+  listing_stand i list = set_stand ps qs stand (i - 1) _ _ (listing_stands (seat_at ring_keeping ps i) (seat_at list_keeping qs i) (seat_stands i) list)
 
-  pub leaving_stand : (i : ℕ) (negative : List ℕ) → AllStandFor (with_leaving_out ringed ps i negative) (with_leaving_out listed qs i negative)
-  leaving_stand i negative = set_stand ps qs stand (i - 1) _ _ (leaving_stands (seat_at ringed ps i) (seat_at listed qs i) (seat_stands i) negative)
+  pub leaving_stand : (i : ℕ) (negative : List ℕ) → AllStandFor (with_leaving_out ring_keeping ps i negative) (with_leaving_out list_keeping qs i negative)
+  leaving_stand i negative = set_stand ps qs stand (i - 1) _ _ (leaving_stands (seat_at ring_keeping ps i) (seat_at list_keeping qs i) (seat_stands i) negative)
 
-  pub what_stand : (w : What) → AllStandFor (after_what ringed ps w) (after_what listed qs w)
+  pub what_stand : (w : What) → AllStandFor (after_what ring_keeping ps w) (after_what list_keeping qs w)
   what_stand (what.Ask ask) = stand
   what_stand what.Timers = stand
   what_stand (what.Submit node tx) = stand
@@ -132,6 +132,6 @@ module _ (ps : List (Seat Places)) (qs : List (Seat (List SaidLedger))) (stand :
   what_stand (what.Prefer node) = stand
   what_stand (what.Heard node) = stand
 
-pub hears_stand : (hs : List Heard) (ps : List (Seat Places)) (qs : List (Seat (List SaidLedger))) → AllStandFor ps qs → AllStandFor (hears ringed ps hs) (hears listed qs hs)
+pub hears_stand : (hs : List Heard) (ps : List (Seat Places)) (qs : List (Seat (List SaidLedger))) → AllStandFor ps qs → AllStandFor (hears ring_keeping ps hs) (hears list_keeping qs hs)
 hears_stand [] ps qs stand = stand
-hears_stand (h ∷ hs) ps qs stand = hears_stand hs (with_hearing ringed ps h) (with_hearing listed qs h) (hearing_stand ps qs stand h)
+hears_stand (h ∷ hs) ps qs stand = hears_stand hs (with_hearing ring_keeping ps h) (with_hearing list_keeping qs h) (hearing_stand ps qs stand h)

@@ -17,9 +17,9 @@ use Rattle.xl_sched.specs.Reading.{after}
 use Rattle.xl_world.specs.Headline.{AgreeAt}
 use Rattle.xl_running.specs.Running.{Running, answer_in, at_first, knows, limits, world_of}
 use Rattle.xl_spelling.specs.Spellings.{MayBeSet, list_line, spelling}
-use Rattle.xl_negative.specs.Listing.{listed}
+use Rattle.xl_negative.specs.Listing.{list_keeping}
 use Rattle.xl_negative.specs.Seats.{seat_at}
-use Rattle.xl_negative.specs.Writing.{Change, Writing, adds, at_first as nothing_read, change_of, negative_of, rules, takes, with_running, written}
+use Rattle.xl_negative.specs.Writing.{Change, Writing, adds, at_first as nothing_read, change_of, negative_of, rules, takes, with_running, as_line}
 
 -- a schedule that is written again, by the list of all that was heard
 abbrev pub ByList : Type 0
@@ -53,7 +53,7 @@ ListsAreEnough = (full a b : TrustedList) (liars : List ℕ) → IsValid full �
 abbrev pub sets : ByList → List ℕ → ℕ → TrustedList → Step ByList
 sets s text i list =
     let l = list_line s.running.reading i list in
-    goes_on (text ++ written (spelling l)) (with_running s (takes (knows s.running (after s.running.reading l)) l))
+    goes_on (text ++ as_line (spelling l)) (with_running s (takes (knows s.running (after s.running.reading l)) l))
 
 -- The law of added lines: each is read as the line that it is, if one line more and one list more may come.
 abbrev pub AddedAreLists : Type 0
@@ -73,7 +73,7 @@ runs r (bytes ∷ lines) = option_and_then (λ next. runs next lines) (read_on r
 
 -- the text of lines
 abbrev pub texts : List (List ℕ) → List ℕ
-texts lines = flat_map written lines
+texts lines = flat_map as_line lines
 
 -- a line of a text, ended by its newline
 abbrev pub ended_line : List ℕ → InputLine
@@ -95,11 +95,11 @@ led_by further (finds text) = None
 -- what the lines of an input lead to
 abbrev pub ran_from : ℕ → ByList → List InputLine → Option ByList
 ran_from left s [] = Some s
-ran_from left s (l ∷ ls) = led_by (λ next. ran_from (left - 1) next ls) (step_at limits (rules listed) left s l)
+ran_from left s (l ∷ ls) = led_by (λ next. ran_from (left - 1) next ls) (step_at limits (rules list_keeping) left s l)
 
 -- what ran here once the whole input was read
 abbrev pub ran_by : List ℕ → Option ByList
-ran_by bytes = ran_from limits.lines (nothing_read listed) (lines_of bytes)
+ran_by bytes = ran_from limits.lines (nothing_read list_keeping) (lines_of bytes)
 
 -- The law of what is written: it leads to the schedule that ran here.
 abbrev pub WrittenRuns : Type 0
@@ -108,12 +108,12 @@ WrittenRuns = (bytes : List ℕ) → (negative_of bytes).verdict ≡ Good
 
 -- the full list of the node of a number, if there is one
 abbrev pub full_at : ByList → ℕ → Option TrustedList
-full_at s i = (seat_at listed s.seats i).full
+full_at s i = (seat_at list_keeping s.seats i).full
 
 -- as far as the lines of an input are read, the node of a number has this full list from its line on
 abbrev pub HasOneList : List ℕ → ℕ → TrustedList → Type 0
 HasOneList bytes i full =
-    (n : ℕ) → IfSome (ran_from limits.lines (nothing_read listed) (take n (lines_of bytes)))
+    (n : ℕ) → IfSome (ran_from limits.lines (nothing_read list_keeping) (take n (lines_of bytes)))
     (λ s. IfSome (full_at s i) (λ list. list ≡ full))
 
 -- The law of the lists of a run: each list that was ever in force at a member with one full list is that list, or leaves

@@ -12,8 +12,8 @@ unfoldable pub scores_of : List Header → List SaidLedger → ℕ → List ℕ
 scores_of ledgers heard flag = map (λ m. score_of ledgers heard m flag) (range_with_len 1 64)
 
 -- the list, as what is kept
-abbrev pub listed : Keeping (List SaidLedger)
-listed = record {
+abbrev pub list_keeping : Keeping (List SaidLedger)
+list_keeping = record {
   nothing = [];
   heard = λ heard said. heard ++ said ∷ [];
   scores = scores_of;

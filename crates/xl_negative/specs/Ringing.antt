@@ -22,8 +22,8 @@ unfoldable pub kept_scores : List Header → Places → ℕ → List ℕ
 kept_scores ledgers places flag = map (λ m. score_in ledgers places m flag) (range_with_len 1 64)
 
 -- rings, as what is kept
-abbrev pub ringed : Keeping Places
-ringed = record {
+abbrev pub ring_keeping : Keeping Places
+ring_keeping = record {
   nothing = nothing_kept;
   heard = with_heard;
   scores = kept_scores;

@@ -38,23 +38,23 @@ members_of None = []
 members_of (Some full) = full.members
 
 -- a node hears something more
-abbrev pub hearing : {H : Type 0} → Keeping H → Seat H → SaidLedger → Seat H
-hearing keeping seat said = record seat { heard = keeping.heard seat.heard said }
+abbrev pub after_hearing : {H : Type 0} → Keeping H → Seat H → SaidLedger → Seat H
+after_hearing keeping seat said = record seat { heard = keeping.heard seat.heard said }
 
 -- it is opened anew
-abbrev pub forgetting : {H : Type 0} → Keeping H → Seat H → Seat H
-forgetting keeping seat = record seat { heard = keeping.nothing }
+abbrev pub seat_anew : {H : Type 0} → Keeping H → Seat H → Seat H
+seat_anew keeping seat = record seat { heard = keeping.nothing }
 
 -- it has another full list, and leaves nobody out
-abbrev pub listing : {H : Type 0} → Seat H → TrustedList → Seat H
-listing seat list = record seat { full = Some list; negative = [] }
+abbrev pub with_full_list : {H : Type 0} → Seat H → TrustedList → Seat H
+with_full_list seat list = record seat { full = Some list; negative = [] }
 
 -- it leaves out these
 abbrev pub leaving_out : {H : Type 0} → Seat H → List ℕ → Seat H
 leaving_out seat negative = record seat { negative = negative }
 
 abbrev pub with_hearing : {H : Type 0} → Keeping H → List (Seat H) → Heard → List (Seat H)
-with_hearing keeping seats h = with_seat seats h.node (hearing keeping (seat_at keeping seats h.node) h.said)
+with_hearing keeping seats h = with_seat seats h.node (after_hearing keeping (seat_at keeping seats h.node) h.said)
 
 -- after all that nodes hear, in this order
 abbrev pub hears : {H : Type 0} → Keeping H → List (Seat H) → List Heard → List (Seat H)
@@ -62,10 +62,10 @@ hears keeping seats [] = seats
 hears keeping seats (h ∷ hs) = hears keeping (with_hearing keeping seats h) hs
 
 abbrev pub with_forgetting : {H : Type 0} → Keeping H → List (Seat H) → ℕ → List (Seat H)
-with_forgetting keeping seats i = with_seat seats i (forgetting keeping (seat_at keeping seats i))
+with_forgetting keeping seats i = with_seat seats i (seat_anew keeping (seat_at keeping seats i))
 
 abbrev pub with_listing : {H : Type 0} → Keeping H → List (Seat H) → ℕ → TrustedList → List (Seat H)
-with_listing keeping seats i list = with_seat seats i (listing (seat_at keeping seats i) list)
+with_listing keeping seats i list = with_seat seats i (with_full_list (seat_at keeping seats i) list)
 
 abbrev pub with_leaving_out : {H : Type 0} → Keeping H → List (Seat H) → ℕ → List ℕ → List (Seat H)
 with_leaving_out keeping seats i negative = with_seat seats i (leaving_out (seat_at keeping seats i) negative)

@@ -31,7 +31,7 @@ use Rattle.xl_running.specs.Running.{Running, answer_in, at_first as running_at_
 use Rattle.xl_running.specs.Texts.{bad_line, newline}
 use Rattle.xl_negative.specs.Hearing.{heard_at}
 use Rattle.xl_negative.specs.Keeping.{Keeping}
-use Rattle.xl_negative.specs.Listing.{listed}
+use Rattle.xl_negative.specs.Listing.{list_keeping}
 use Rattle.xl_negative.specs.Seats.{Seat, no_seats, seat_at, hears, after_what, with_listing, with_leaving_out}
 
 pub record Writing (H : Type 0) : Type 0 where
@@ -46,8 +46,8 @@ abbrev pub at_first : {H : Type 0} → Keeping H → Writing H
 at_first keeping = record { running = running_at_first; lines = 0; seats = no_seats keeping }
 
 -- a line of what is written
-abbrev pub written : List ℕ → List ℕ
-written bytes = bytes ++ newline
+abbrev pub as_line : List ℕ → List ℕ
+as_line bytes = bytes ++ newline
 
 -- a line that was read is taken in
 abbrev pub takes : Running → Line → Running
@@ -65,13 +65,13 @@ with_running s r = record s { running = r }
 
 -- a line is added behind what is written so far, and read and run like any other. If it is refused, the number is
 -- that of the input's line
-abbrev pub added : {H : Type 0} → Writing H → List ℕ → List ℕ → LineAnswer → Step (Writing H)
-added s text bytes (passes reading) = goes_on (text ++ written bytes) (with_running s (knows s.running reading))
-added s text bytes (gives l reading) = goes_on (text ++ written bytes) (with_running s (takes (knows s.running reading) l))
-added s text bytes (refuses why) = stops (text ++ bad_line s.lines why)
+abbrev pub step_adding : {H : Type 0} → Writing H → List ℕ → List ℕ → LineAnswer → Step (Writing H)
+step_adding s text bytes (passes reading) = goes_on (text ++ as_line bytes) (with_running s (knows s.running reading))
+step_adding s text bytes (gives l reading) = goes_on (text ++ as_line bytes) (with_running s (takes (knows s.running reading) l))
+step_adding s text bytes (refuses why) = stops (text ++ bad_line s.lines why)
 
 abbrev pub adds : {H : Type 0} → Writing H → List ℕ → Line → Step (Writing H)
-adds s text l = added s text (spelling l) (answer_in s.running (spelling l))
+adds s text l = step_adding s text (spelling l) (answer_in s.running (spelling l))
 
 -- what a node goes over to: the members of its full list that it leaves out from now on, and the list without them
 pub record Change : Type 0 where
@@ -156,40 +156,40 @@ after_outcomes keeping s text (o ∷ os) =
     and_then (λ next further. after_outcomes keeping next further os) (after_outcome keeping s text o)
 
 -- an event of the input is run, and what nodes hear in it is kept
-abbrev pub happened : {H : Type 0} → Keeping H → Writing H → Event → Writing H
-happened keeping s e = record s {
+abbrev pub after_event : {H : Type 0} → Keeping H → Writing H → Event → Writing H
+after_event keeping s e = record s {
   running = happens s.running e;
   seats = after_what keeping (hears keeping s.seats (heard_at (world_of s.running) e)) e.what;
 }
 
 -- what a line of the input declares; a node has the list that it declares
-abbrev pub declared : {H : Type 0} → Keeping H → Writing H → Line → Writing H
-declared keeping s (line.Limit limit) = with_running s (declares s.running (line.Limit limit))
-declared keeping s (line.Speak version) = with_running s (declares s.running (line.Speak version))
-declared keeping s (line.Node me list validating) =
+abbrev pub after_declaration : {H : Type 0} → Keeping H → Writing H → Line → Writing H
+after_declaration keeping s (line.Limit limit) = with_running s (declares s.running (line.Limit limit))
+after_declaration keeping s (line.Speak version) = with_running s (declares s.running (line.Speak version))
+after_declaration keeping s (line.Node me list validating) =
     record (with_running s (declares s.running (line.Node me list validating))) {
       seats = with_listing keeping s.seats me list;
     }
-declared keeping s (line.Liar me) = with_running s (declares s.running (line.Liar me))
-declared keeping s (line.Name name id) = with_running s (declares s.running (line.Name name id))
-declared keeping s (line.Ledger name parent header) = with_running s (declares s.running (line.Ledger name parent header))
-declared keeping s (line.At at) = with_running s (declares s.running (line.At at))
-declared keeping s (line.Event e) = with_running s (declares s.running (line.Event e))
+after_declaration keeping s (line.Liar me) = with_running s (declares s.running (line.Liar me))
+after_declaration keeping s (line.Name name id) = with_running s (declares s.running (line.Name name id))
+after_declaration keeping s (line.Ledger name parent header) = with_running s (declares s.running (line.Ledger name parent header))
+after_declaration keeping s (line.At at) = with_running s (declares s.running (line.At at))
+after_declaration keeping s (line.Event e) = with_running s (declares s.running (line.Event e))
 
 -- what a line of the input says is taken in, behind the text so far
 abbrev pub after_line : {H : Type 0} → Keeping H → Writing H → List ℕ → Line → Step (Writing H)
-after_line keeping s text (line.Limit limit) = goes_on text (declared keeping s (line.Limit limit))
-after_line keeping s text (line.Speak version) = goes_on text (declared keeping s (line.Speak version))
-after_line keeping s text (line.Node me list validating) = goes_on text (declared keeping s (line.Node me list validating))
-after_line keeping s text (line.Liar me) = goes_on text (declared keeping s (line.Liar me))
-after_line keeping s text (line.Name name id) = goes_on text (declared keeping s (line.Name name id))
-after_line keeping s text (line.Ledger name parent header) = goes_on text (declared keeping s (line.Ledger name parent header))
-after_line keeping s text (line.At at) = goes_on text (declared keeping s (line.At at))
-after_line keeping s text (line.Event e) = after_outcomes keeping (happened keeping s e) text (outcomes (world_of s.running) e)
+after_line keeping s text (line.Limit limit) = goes_on text (after_declaration keeping s (line.Limit limit))
+after_line keeping s text (line.Speak version) = goes_on text (after_declaration keeping s (line.Speak version))
+after_line keeping s text (line.Node me list validating) = goes_on text (after_declaration keeping s (line.Node me list validating))
+after_line keeping s text (line.Liar me) = goes_on text (after_declaration keeping s (line.Liar me))
+after_line keeping s text (line.Name name id) = goes_on text (after_declaration keeping s (line.Name name id))
+after_line keeping s text (line.Ledger name parent header) = goes_on text (after_declaration keeping s (line.Ledger name parent header))
+after_line keeping s text (line.At at) = goes_on text (after_declaration keeping s (line.At at))
+after_line keeping s text (line.Event e) = after_outcomes keeping (after_event keeping s e) text (outcomes (world_of s.running) e)
 
 -- one more line of the input was read
-abbrev pub counted : {H : Type 0} → Writing H → Reading → Writing H
-counted s reading = record s { running = knows s.running reading; lines = one_more s.lines }
+abbrev pub with_line_counted : {H : Type 0} → Writing H → Reading → Writing H
+with_line_counted s reading = record s { running = knows s.running reading; lines = one_more s.lines }
 
 -- a line of the input as it is written: it is handed on without a return before its newline, and one at the end of the
 -- input is left out too
@@ -197,26 +197,26 @@ abbrev pub copied : List ℕ → Bool → List ℕ
 copied bytes ended = if ended then bytes else without_return bytes
 
 abbrev pub after_answer : {H : Type 0} → Keeping H → Writing H → List ℕ → Bool → LineAnswer → Step (Writing H)
-after_answer keeping s bytes ended (passes reading) = goes_on (written (copied bytes ended)) (counted s reading)
+after_answer keeping s bytes ended (passes reading) = goes_on (as_line (copied bytes ended)) (with_line_counted s reading)
 after_answer keeping s bytes ended (gives l reading) =
-    after_line keeping (counted s reading) (written (copied bytes ended)) l
+    after_line keeping (with_line_counted s reading) (as_line (copied bytes ended)) l
 after_answer keeping s bytes ended (refuses why) = stops (bad_line (one_more s.lines) why)
 
 -- the end of a schedule: one with no line lacks its header
-abbrev pub ending : {H : Type 0} → Writing H → Told
-ending s = if s.lines == 0 then closes (bad_line 1 (NoHeader [])) Refused else closes [] Good
+abbrev pub told_at_end : {H : Type 0} → Writing H → Told
+told_at_end s = if s.lines == 0 then closes (bad_line 1 (NoHeader [])) Refused else closes [] Good
 
 abbrev pub rules : {H : Type 0} → Keeping H → Rules (Writing H)
 rules keeping = record {
   step = λ s bytes ended. after_answer keeping s bytes ended (answer_in s.running bytes);
   overrun = λ s overrun. bad_line (one_more s.lines) (beyond overrun);
-  closing = ending;
+  closing = told_at_end;
 }
 
 -- what is written of a schedule, and what it says: the list of all that was heard says it
 abbrev pub negative_of : List ℕ → Told
-negative_of bytes = told_of limits (rules listed) (at_first listed) bytes
+negative_of bytes = told_of limits (rules list_keeping) (at_first list_keeping) bytes
 
 -- what is written as soon as these bytes have come
 abbrev pub negative_soon : List ℕ → Told
-negative_soon bytes = told_soon limits (rules listed) (at_first listed) bytes
+negative_soon bytes = told_soon limits (rules list_keeping) (at_first list_keeping) bytes

@@ -3,7 +3,7 @@ ghost use Rattle.std.specs.Prelude.{◌≡◌, ◌≤◌, ◌<◌, ◌==◌, not
 ghost use Rattle.xl_ledger.specs.Chains.{seq_at};
 ghost use Rattle.xl_nunl.specs.Lists.{IsNegative};
 ghost use Rattle.xl_nunl.specs.Deciding.{negative_after};
-ghost use Rattle.xl_negative.specs.Ringing.{ringed};
+ghost use Rattle.xl_negative.specs.Ringing.{ring_keeping};
 ghost use Rattle.xl_negative.specs.Seats.{members_of};
 ghost use Rattle.xl_negative.specs.Writing.{change_at, change_by, change_of, flag_in as flag_of, is_flag as is_flag_of};
 
@@ -44,7 +44,7 @@ pub fn change_at(
     seq: Seq,
     id: &LedgerId,
 ) -> Result<Option<Change>, OutOfMemory>
-    ensures value { IfOk result (λ change. change ≡ change_at ringed seat.now i registry.now.headers seq id.now) }
+    ensures value { IfOk result (λ change. change ≡ change_at ring_keeping seat.now i registry.now.headers seq id.now) }
     ensures lawful { IfOk result (λ change. IfSome change (λ c. IsNegative (members_of seat.now.full) c.negative)) }
 {
     if !is_flag(seq) {
@@ -66,7 +66,7 @@ fn change_by(
 ) -> Result<Option<Change>, OutOfMemory>
     requires known { flag < length registry.now.headers }
     requires high { 255 ≤ seq_at registry.now.headers flag }
-    ensures value { IfOk result (λ change. change ≡ change_by ringed seat.now i registry.now.headers (Some flag) seat.now.full) }
+    ensures value { IfOk result (λ change. change ≡ change_by ring_keeping seat.now i registry.now.headers (Some flag) seat.now.full) }
     ensures lawful { IfOk result (λ change. IfSome change (λ c. IsNegative (members_of seat.now.full) c.negative)) }
 {
     let negative = seat.negative();

@@ -1,7 +1,7 @@
 ghost use Rattle.std.specs.Prelude.{◌≡◌, option_copied, IfOk, OnOk};
 ghost use Rattle.xl_nunl.specs.Lists.{IsNegative};
-ghost use Rattle.xl_negative.specs.Ringing.{kept_in, ringed};
-ghost use Rattle.xl_negative.specs.Seats.{empty_seat, forgetting, hearing, leaving_out, listing, members_of};
+ghost use Rattle.xl_negative.specs.Ringing.{kept_in, ring_keeping};
+ghost use Rattle.xl_negative.specs.Seats.{empty_seat, seat_anew, after_hearing, leaving_out, with_full_list, members_of};
 
 use std::alloc::Global;
 use std::marker::Model;
@@ -35,7 +35,7 @@ impl Model for Seat {
 impl Seat {
     /// The seat of a number that no node has.
     pub fn empty(alloc: Global) -> Seat
-        ensures { result ≡ empty_seat ringed }
+        ensures { result ≡ empty_seat ring_keeping }
     {
         Seat {
             full: None,
@@ -66,7 +66,7 @@ impl Seat {
 
     /// The node hears something more. The first after its opening takes memory, and no other.
     pub fn hear(&mut self, alloc: Global, said: SaidLedger) -> Result<(), OutOfMemory>
-        ensures { OnOk result (self.new ≡ hearing ringed self.old said) }
+        ensures { OnOk result (self.new ≡ after_hearing ring_keeping self.old said) }
     {
         match &mut self.heard {
             Some(heard) => heard.heard(said.member, said.seq, said.id),
@@ -81,14 +81,14 @@ impl Seat {
 
     /// The node is opened anew.
     pub fn forget(&mut self)
-        ensures { self.new ≡ forgetting ringed self.old }
+        ensures { self.new ≡ seat_anew ring_keeping self.old }
     {
         self.heard = None;
     }
 
     /// The node has this full list from now on, and leaves nobody out.
     pub fn list(&mut self, full: List)
-        ensures { self.new ≡ listing self.old full }
+        ensures { self.new ≡ with_full_list self.old full }
     {
         self.full = Some(full);
         self.negative.clear();

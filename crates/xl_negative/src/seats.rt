@@ -1,7 +1,7 @@
 ghost use Rattle.std.specs.Prelude.{◌≡◌, ◌-◌, ◌<◌, IfOk, OnOk};
 ghost use Rattle.xl_world.specs.Schedule.{node_asked};
 ghost use Rattle.xl_nunl.specs.Lists.{IsNegative};
-ghost use Rattle.xl_negative.specs.Ringing.{ringed};
+ghost use Rattle.xl_negative.specs.Ringing.{ring_keeping};
 ghost use Rattle.xl_negative.specs.Seats.{
   after_what,
   hears,
@@ -43,27 +43,27 @@ impl Model for Seats {
 impl Seats {
     /// No node has any number.
     pub fn open(alloc: Global) -> Result<Seats, OutOfMemory>
-        ensures { IfOk result (λ seats. seats ≡ no_seats ringed) }
+        ensures { IfOk result (λ seats. seats ≡ no_seats ring_keeping) }
     {
         let seats = empty_seats(alloc)?;
         Ok(Seats { seats })
     }
 
     pub fn at(&self, i: NodeNo) -> &Seat
-        ensures { result.now ≡ seat_at ringed self.now i }
+        ensures { result.now ≡ seat_at ring_keeping self.now i }
     {
         &self.seats[place_of(i)]
     }
 
     fn hear_one(&mut self, alloc: Global, heard: &Heard) -> Result<(), OutOfMemory>
-        ensures { OnOk result (self.new ≡ with_hearing ringed self.old heard.now) }
+        ensures { OnOk result (self.new ≡ with_hearing ring_keeping self.old heard.now) }
     {
         self.seats[place_of(heard.node)].hear(alloc, heard.said)
     }
 
     /// Nodes hear all this, in this order.
     pub fn hear(&mut self, alloc: Global, heard: &[Heard]) -> Result<(), OutOfMemory>
-        ensures { OnOk result (self.new ≡ hears ringed self.old heard.now) }
+        ensures { OnOk result (self.new ≡ hears ring_keeping self.old heard.now) }
     {
         for one in heard {
             self.hear_one(alloc, one)?;
@@ -72,29 +72,29 @@ impl Seats {
     }
 
     fn forget(&mut self, i: NodeNo)
-        ensures { self.new ≡ with_forgetting ringed self.old i }
+        ensures { self.new ≡ with_forgetting ring_keeping self.old i }
     {
         self.seats[place_of(i)].forget();
     }
 
     /// The node of this number has this full list from now on.
     pub fn list(&mut self, i: NodeNo, full: List)
-        ensures { self.new ≡ with_listing ringed self.old i full }
+        ensures { self.new ≡ with_listing ring_keeping self.old i full }
     {
         self.seats[place_of(i)].list(full);
     }
 
     /// The node of this number leaves out these members from now on.
     pub fn leave_out(&mut self, i: NodeNo, negative: Vec<NodeNo>)
-        requires { IsNegative (members_of (seat_at ringed self.old i).full) negative.items }
-        ensures { self.new ≡ with_leaving_out ringed self.old i negative.items }
+        requires { IsNegative (members_of (seat_at ring_keeping self.old i).full) negative.items }
+        ensures { self.new ≡ with_leaving_out ring_keeping self.old i negative.items }
     {
         self.seats[place_of(i)].leave_out(negative);
     }
 
     /// What an event of the input does beside what is heard.
     pub fn happen(&mut self, what: &What)
-        ensures { self.new ≡ after_what ringed self.old what.now }
+        ensures { self.new ≡ after_what ring_keeping self.old what.now }
     {
         match what {
             What::Restart { node } => self.forget(*node),
@@ -106,7 +106,7 @@ impl Seats {
 }
 
 fn empty_seats(alloc: Global) -> Result<Vec<Seat>, OutOfMemory>
-    ensures { IfOk result (λ seats. seats.items ≡ no_seats ringed) }
+    ensures { IfOk result (λ seats. seats.items ≡ no_seats ring_keeping) }
 {
     let mut seats = Vec::with_capacity(alloc, MOST_MEMBERS)?;
     for _ in 0..MOST_MEMBERS {

@@ -6,7 +6,7 @@ ghost use Rattle.xl_running.specs.Running.{IsInRange};
 ghost use Rattle.xl_spelling.specs.Spellings.{list_line};
 ghost use Rattle.xl_running.specs.Texts.{bad_line};
 ghost use Rattle.xl_world.specs.Schedule.{IsPlausible};
-ghost use Rattle.xl_negative.specs.Writing.{copied, written};
+ghost use Rattle.xl_negative.specs.Writing.{copied, as_line};
 
 use crate::deciding::{Change, change_at};
 use crate::hearing::{Heard, hear_issued, heard_in};
@@ -32,7 +32,7 @@ pub struct Writer {
 }
 
 impl Writer {
-    ghost use Rattle.xl_negative.specs.Ringing.{ringed};
+    ghost use Rattle.xl_negative.specs.Ringing.{ring_keeping};
     ghost use Rattle.xl_negative.specs.States.{issued_in, state_of};
     ghost use Rattle.xl_negative.specs.Writing.{
       adds,
@@ -42,8 +42,8 @@ impl Writer {
       after_report,
       at_first,
       change_at,
-      declared,
-      happened,
+      after_declaration,
+      after_event,
       ledgers_at,
       takes,
       with_running,
@@ -56,7 +56,7 @@ impl Writer {
 
     /// Before the first line.
     pub fn open(alloc: Global) -> Result<Writer, OutOfMemory>
-        ensures { IfOk result (λ writer. state_of writer ≡ at_first ringed) }
+        ensures { IfOk result (λ writer. state_of writer ≡ at_first ring_keeping) }
     {
         Ok(Writer {
             alloc,
@@ -117,9 +117,9 @@ impl Writer {
     /// What the node of this number changes at a report of its own.
     fn change_at(&self, i: NodeNo, seq: Seq, id: &LedgerId) -> Result<Option<Change>, OutOfMemory>
         ensures value { IfOk result (λ change. change
-            ≡ change_at ringed (seat_at ringed self.now.seats i) i (ledgers_at self.now.running.world i) seq id.now) }
+            ≡ change_at ring_keeping (seat_at ring_keeping self.now.seats i) i (ledgers_at self.now.running.world i) seq id.now) }
         ensures lawful { IfOk result (λ change. IfSome change (λ c.
-            IsNegative (members_of (seat_at ringed self.now.seats i).full) c.negative)) }
+            IsNegative (members_of (seat_at ring_keeping self.now.seats i).full) c.negative)) }
     {
         let seat = self.seats.at(i);
         let Some(world) = self.running.world() else {
@@ -141,7 +141,7 @@ impl Writer {
         text: &mut Vec<u8>,
     ) -> Result<Next, OutOfMemory>
         ensures { IfOk result (λ next. step_given next text.new.items (state_of self.new)
-            ≡ after_report ringed (state_of self.old) text.old.items i seq id.now) }
+            ≡ after_report ring_keeping (state_of self.old) text.old.items i seq id.now) }
     {
         match self.change_at(i, seq, id)? {
             Some(change) => {
@@ -154,7 +154,7 @@ impl Writer {
 
     fn outcome(&mut self, outcome: &Outcome, text: &mut Vec<u8>) -> Result<Next, OutOfMemory>
         ensures { IfOk result (λ next. step_given next text.new.items (state_of self.new)
-            ≡ after_outcome ringed (state_of self.old) text.old.items outcome.now) }
+            ≡ after_outcome ring_keeping (state_of self.old) text.old.items outcome.now) }
     {
         match outcome {
             Outcome::Full { node, seq, id } => self.report(*node, *seq, id, text),
@@ -165,7 +165,7 @@ impl Writer {
     /// The decisions on what came of an event, in order.
     fn outcomes(&mut self, outcomes: &[Outcome], text: &mut Vec<u8>) -> Result<Next, OutOfMemory>
         ensures { IfOk result (λ next. step_given next text.new.items (state_of self.new)
-            ≡ after_outcomes ringed (state_of self.old) text.old.items outcomes.now) }
+            ≡ after_outcomes ring_keeping (state_of self.old) text.old.items outcomes.now) }
     {
         for outcome in outcomes {
             match self.outcome(outcome, text)? {
@@ -180,7 +180,7 @@ impl Writer {
     fn run(&mut self, event: &Event) -> Result<Happened, OutOfMemory>
         requires timely { event.now.at ≤ greatest_millis }
         requires plausible { IsPlausible event.now.what }
-        ensures state { OnOk result (state_of self.new ≡ happened ringed (state_of self.old) event.now) }
+        ensures state { OnOk result (state_of self.new ≡ after_event ring_keeping (state_of self.old) event.now) }
         ensures told { IfOk result (λ told. told ≡ outcomes (world_of self.old.running) event.now) }
     {
         let mut heard = self.heard_in(&event.what)?;
@@ -220,7 +220,7 @@ impl Writer {
     fn after_line(&mut self, line: &Line, text: &mut Vec<u8>) -> Result<Next, OutOfMemory>
         requires { IsInRange line.now }
         ensures { IfOk result (λ next. step_given next text.new.items (state_of self.new)
-            ≡ after_line ringed (state_of self.old) text.old.items line.now) }
+            ≡ after_line ring_keeping (state_of self.old) text.old.items line.now) }
     {
         match line {
             Line::Event(event) => {
@@ -237,7 +237,7 @@ impl Writer {
     /// What a line of the input declares.
     fn declare(&mut self, line: &Line) -> Result<(), OutOfMemory>
         requires { IsInRange line.now }
-        ensures { OnOk result (state_of self.new ≡ declared ringed (state_of self.old) line.now) }
+        ensures { OnOk result (state_of self.new ≡ after_declaration ring_keeping (state_of self.old) line.now) }
     {
         if let Line::Node { me, list, .. } = line {
             self.seats.list(*me, list.copy());
@@ -248,7 +248,7 @@ impl Writer {
 
 impl Machine for Writer {
     ghost use Rattle.xl_negative.specs.States.{state_of};
-    ghost use Rattle.xl_negative.specs.Ringing.{Places, ringed};
+    ghost use Rattle.xl_negative.specs.Ringing.{Places, ring_keeping};
     ghost use Rattle.xl_negative.specs.Writing.{Writing, rules as the_rules};
 
     type Answer = Vec<u8>;
@@ -257,7 +257,7 @@ impl Machine for Writer {
 
     ghost state = { state_of };
 
-    ghost rules = { the_rules ringed };
+    ghost rules = { the_rules ring_keeping };
 
     fn line(&mut self, line: &[u8], ended: bool, text: &mut Vec<u8>) -> Result<Next, OutOfMemory> {
         match self.running.read(line) {
@@ -316,7 +316,7 @@ fn copied(line: &[u8], ended: bool) -> &[u8]
 
 /// A line of what is written.
 fn push_line(text: &mut Vec<u8>, line: &[u8]) -> Result<(), OutOfMemory>
-    ensures { OnOk result (text.new.items ≡ text.old.items ++ written line.now) }
+    ensures { OnOk result (text.new.items ≡ text.old.items ++ as_line line.now) }
 {
     text.extend_from_slice(line)?;
     text.push(b'\n')?;

@@ -8,7 +8,7 @@ use std::process::ExitCode;
 use std::{env, io};
 use xl_base::Status;
 use xl_io::{StdSink, StdSource};
-use xl_keep::{FileKeeper, SystemFile};
+use xl_keep::{FileKeeper, SystemBoards, SystemFile};
 use xl_links::OpenGate;
 use xl_tcp::{SystemClock, TcpHub};
 use xl_top::{Host, top};
@@ -43,12 +43,14 @@ fn words_of(rt: &HostRuntime) -> Result<Vec<String>, Status> {
     Ok(all)
 }
 
-/// What the program finds outside: the words of its command line, and what a node keeps, connects by and tells time by.
+/// What the program finds outside: the words of its command line, and what a node keeps, connects by, tells time by and
+/// says how it is on.
 #[derive(Drop)]
 struct Outside {
     words: Vec<String>,
     keeper: FileKeeper<SystemFile<HostRuntime>>,
     hub: TcpHub<HostRuntime>,
+    boards: SystemBoards<HostRuntime>,
     clock: SystemClock<HostRuntime>,
 }
 
@@ -68,6 +70,7 @@ fn found_by(rt: &HostRuntime) -> Result<Outside, Status> {
         words: words_of(rt)?,
         keeper: keeper_of(rt)?,
         hub: TcpHub::new(rt.alloc(), again(rt)?),
+        boards: SystemBoards::new(rt.alloc(), again(rt)?),
         clock: SystemClock::new(again(rt)?),
     })
 }
@@ -79,6 +82,7 @@ fn main(rt: HostRuntime) -> ExitCode {
                 words,
                 keeper,
                 mut hub,
+                mut boards,
                 clock,
             } = outside;
             let host = Host {
@@ -89,7 +93,16 @@ fn main(rt: HostRuntime) -> ExitCode {
             };
             let mut input = StdSource::new(rt.reader());
             let mut output = StdSink::new(io::writer(&rt));
-            top(&host, &words, &mut input, &mut output, keeper, &mut hub).status
+            top(
+                &host,
+                &words,
+                &mut input,
+                &mut output,
+                keeper,
+                &mut hub,
+                &mut boards,
+            )
+            .status
         }
         Err(status) => status,
     };

@@ -11,7 +11,7 @@ use Rattle.std.proofs.lemmas.List.Elements.{All-nil, All-filter, All-push}
 use Rattle.std.proofs.lemmas.List.Sums.{length-filter, count_by-le-length}
 use Rattle.xl_lists.specs.Lists.{is_on}
 use Rattle.xl_nunl.specs.Lists.{IsNegative}
-use Rattle.xl_nunl.specs.Deciding.{score_at, is_worse, only_if, joining, candidates, without, with_one, negative_after}
+use Rattle.xl_nunl.specs.Deciding.{score_at, is_worse, only_if, joining_member, candidates, without, with_one, negative_after}
 use Rattle.xl_firsts.specs.Firsts.{first_by}
 use Rattle.xl_firsts.proofs.Firsts.{either}
 
@@ -119,7 +119,7 @@ not_true false e = refl
 le_of : (a b : ℕ) → nat_le a b ≡ true → a ≤ b
 le_of a b e = grind (arith, nat_tests)
 
-one_more : (full negative scores : List ℕ) (me : ℕ) (joined : Option ℕ) → joining full negative scores me ≡ joined → IsNegative full negative → IsNegative full (with_one negative joined)
+one_more : (full negative scores : List ℕ) (me : ℕ) (joined : Option ℕ) → joining_member full negative scores me ≡ joined → IsNegative full negative → IsNegative full (with_one negative joined)
 one_more full negative scores me None e is = is
 one_more full negative scores me (Some m) e is =
     let found = only_some (λ k. nat_lt (score_at scores k) 128 && nat_le (length negative + 1) (length full / 4)) (first_by (is_worse scores) (candidates full negative me)) m e in
@@ -133,8 +133,8 @@ one_more full negative scores me (Some m) e is =
     }
 
 pub negative_stays : (full negative scores : List ℕ) (me : ℕ) (left : Option ℕ) → IsNegative full negative →
-    IsNegative full (negative_after negative left (joining full (without negative left) scores me))
-negative_stays full negative scores me left is = one_more full (without negative left) scores me (joining full (without negative left) scores me) refl (without_stays full negative left is)
+    IsNegative full (negative_after negative left (joining_member full (without negative left) scores me))
+negative_stays full negative scores me left is = one_more full (without negative left) scores me (joining_member full (without negative left) scores me) refl (without_stays full negative left is)
 
 -- nobody may be left out
 pub none_out : (full : List ℕ) → IsNegative full []

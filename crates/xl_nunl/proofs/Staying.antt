@@ -13,7 +13,7 @@ use Rattle.xl_lists.specs.Lists.{TrustedList, is_on, is_outside, repeated_after,
 use Rattle.xl_lists.specs.declared.refusal.ListRefusal.{ListRefusal}
 use Rattle.xl_lists.specs.declared.refusal.ListRefusal.TheVariants.{Empty, TooMany, OutOfRange, Repeated, Quorum}
 use Rattle.xl_lists.proofs.Counting.{count_by-cons, count_shared}
-use Rattle.xl_nunl.specs.Lists.{IsNegative, least_quorum, staying_up_to, staying, list_without, MayBeInForce}
+use Rattle.xl_nunl.specs.Lists.{IsNegative, least_quorum, staying_up_to, staying_members, list_without, MayBeInForce}
 use Rattle.xl_nunl.proofs.Negative.{distinct_filter, of_filter}
 
 -- ---- the numbers from one on
@@ -60,8 +60,8 @@ pub none_yet : (full negative : List ℕ) → staying_up_to full negative 0 ≡ 
 unfolding staying_up_to
 none_yet full negative = refl
 
-pub all_of_them : (full negative : List ℕ) → staying_up_to full negative 64 ≡ staying full negative
-unfolding staying
+pub all_of_them : (full negative : List ℕ) → staying_up_to full negative 64 ≡ staying_members full negative
+unfolding staying_members
 all_of_them full negative = refl
 
 one_more : (full negative : List ℕ) (n : ℕ) (b : Bool) → (is_on full (n + 1) && not (is_on negative (n + 1))) ≡ b →
@@ -191,8 +191,8 @@ passed_again p xs (y ∷ ys) within =
     alone true c e = e
     alone false c e = refl
 
-risen : (full negative : List ℕ) → rising (staying full negative) ≡ staying full negative
-unfolding all_numbers staying staying_up_to
+risen : (full negative : List ℕ) → rising (staying_members full negative) ≡ staying_members full negative
+unfolding all_numbers staying_members staying_up_to
 risen full negative = passed_again (λ m. is_on full m && not (is_on negative m)) (range_with_len 1 64) (range_with_len 1 64) (λ m on. on)
 
 -- ---- nothing of them is refused
@@ -256,32 +256,32 @@ quorum_fits : (n k out : ℕ) → 1 ≤ n → out ≤ n / 4 → n ≤ k + out �
 quorum_fits n k out some quarter fewer at_most = (omega arith, omega arith, omega arith)
 
 module _ (full : TrustedList) (negative : List ℕ) (valid : IsValid full) (is : IsNegative full.members negative) where
-  sizes : (length full.members ≤ length (staying full.members negative) + length negative) × (length (staying full.members negative) ≤ length full.members)
+  sizes : (length full.members ≤ length (staying_members full.members negative) + length negative) × (length (staying_members full.members negative) ≤ length full.members)
   sizes = rw (← all_of_them full.members negative) (length_up_to full.members negative 64 valid.once valid.numbers)
 
-  once : IsDistinct nat_eq (staying full.members negative)
+  once : IsDistinct nat_eq (staying_members full.members negative)
   once = subst (IsDistinct nat_eq) (all_of_them full.members negative) (distinct_up_to full.members negative 64)
 
-  each : (m : ℕ) → is_on (staying full.members negative) m ≡ true → (1 ≤ m) × (m ≤ 64) × (is_on full.members m ≡ true)
+  each : (m : ℕ) → is_on (staying_members full.members negative) m ≡ true → (1 ≤ m) × (m ≤ 64) × (is_on full.members m ≡ true)
   each m on = of_up_to full.members negative 64 m (ap (λ (xs : List ℕ). is_on xs m) (all_of_them full.members negative) ∙ on)
 
   -- the members that stay are a list, with the quorum that is theirs
-  pub stays_list : (members : List ℕ) (quorum : ℕ) → members ≡ staying full.members negative → quorum ≡ max ((4 * length members + 4) / 5) (least_quorum (length full.members)) →
+  pub stays_list : (members : List ℕ) (quorum : ℕ) → members ≡ staying_members full.members negative → quorum ≡ max ((4 * length members + 4) / 5) (least_quorum (length full.members)) →
       list_of members quorum ≡ Ok (list_without full.members negative)
   stays_list members quorum same four =
-      let k : ℕ = length (staying full.members negative) in
+      let k : ℕ = length (staying_members full.members negative) in
       let q : ℕ = max ((4 * k + 4) / 5) (least_quorum (length full.members)) in
       let fits = quorum_fits (length full.members) k (length negative) valid.some is.quarter sizes.0 sizes.1 in
       ap (λ (n : ℕ). list_of members n) (four ∙ ap (λ (xs : List ℕ). max ((4 * length xs + 4) / 5) (least_quorum (length full.members))) same)
       ∙ ap (λ (xs : List ℕ). list_of xs q) same
-      ∙ is_list (staying full.members negative) q fits.2 (omega (arith, sizes.1, valid.at_most))
-      (none_outside (staying full.members negative) (λ m on. let numbers = each m on in outside_not m numbers.0 numbers.1))
-      (none_repeated [] (staying full.members negative) (λ m on. refl) once) fits.0 fits.1
+      ∙ is_list (staying_members full.members negative) q fits.2 (omega (arith, sizes.1, valid.at_most))
+      (none_outside (staying_members full.members negative) (λ m on. let numbers = each m on in outside_not m numbers.0 numbers.1))
+      (none_repeated [] (staying_members full.members negative) (λ m on. refl) once) fits.0 fits.1
       ∙ ap (λ (xs : List ℕ). Ok (record { members = xs; quorum = q })) (risen full.members negative)
 
   pub stays_lawful : MayBeInForce full.members (list_without full.members negative)
   stays_lawful = record {
     once = once;
-    on = each_on (λ m. IsTrue (is_on full.members m)) (staying full.members negative) (λ m on. (each m on).2);
+    on = each_on (λ m. IsTrue (is_on full.members m)) (staying_members full.members negative) (λ m on. (each m on).2);
     quorum = omega arith;
   }

@@ -26,8 +26,8 @@ abbrev pub hears_little : List ℕ → List ℕ → ℕ → Bool
 hears_little full scores me = is_on full me && nat_lt (score_at scores me) 230
 
 -- the member that may come back: the best of those that are left out, where its score is above 204
-abbrev pub leaving : List ℕ → List ℕ → Option ℕ
-leaving negative scores = only_if (λ m. nat_lt 204 (score_at scores m)) (first_by (is_better scores) negative)
+abbrev pub leaving_member : List ℕ → List ℕ → Option ℕ
+leaving_member negative scores = only_if (λ m. nat_lt 204 (score_at scores m)) (first_by (is_better scores) negative)
 
 -- those that are left out, without the one that comes back
 abbrev pub without : List ℕ → Option ℕ → List ℕ
@@ -39,19 +39,19 @@ abbrev pub candidates : List ℕ → List ℕ → ℕ → List ℕ
 candidates full negative me = filter (λ m. not (is_on negative m) && not (m == me)) full
 
 -- the member that is left out next: the worst, where its score is below 128 and it makes at most a quarter
-abbrev pub joining : List ℕ → List ℕ → List ℕ → ℕ → Option ℕ
-joining full negative scores me =
+abbrev pub joining_member : List ℕ → List ℕ → List ℕ → ℕ → Option ℕ
+joining_member full negative scores me =
     only_if (λ m. nat_lt (score_at scores m) 128 && nat_le (length negative + 1) (length full / 4))
     (first_by (is_worse scores) (candidates full negative me))
 
 -- the member that comes back at a flag ledger
 abbrev pub left_of : List ℕ → List ℕ → List ℕ → ℕ → Option ℕ
-left_of full negative scores me = if hears_little full scores me then None else leaving negative scores
+left_of full negative scores me = if hears_little full scores me then None else leaving_member negative scores
 
 -- the member that is left out at it
 abbrev pub joined_of : List ℕ → List ℕ → List ℕ → ℕ → Option ℕ
 joined_of full negative scores me =
-    if hears_little full scores me then None else joining full (without negative (leaving negative scores)) scores me
+    if hears_little full scores me then None else joining_member full (without negative (leaving_member negative scores)) scores me
 
 -- those that are left out with one more
 abbrev pub with_one : List ℕ → Option ℕ → List ℕ

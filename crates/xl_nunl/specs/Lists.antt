@@ -20,14 +20,14 @@ unfoldable pub staying_up_to : List ℕ → List ℕ → ℕ → List ℕ
 staying_up_to full negative n = filter (λ m. is_on full m && not (is_on negative m)) (range_with_len 1 n)
 
 -- the members that stay, by rising number
-unfoldable pub staying : List ℕ → List ℕ → List ℕ
-staying full negative = staying_up_to full negative 64
+unfoldable pub staying_members : List ℕ → List ℕ → List ℕ
+staying_members full negative = staying_up_to full negative 64
 
 -- the list in force: four fifths of those that stay are a quorum, but at least three fifths of all
 abbrev pub list_without : List ℕ → List ℕ → TrustedList
 list_without full negative = record {
-  members = staying full negative;
-  quorum = max ((4 * length (staying full negative) + 4) / 5) (least_quorum (length full));
+  members = staying_members full negative;
+  quorum = max ((4 * length (staying_members full negative) + 4) / 5) (least_quorum (length full));
 }
 
 -- a list that may be in force at a node which declared these members

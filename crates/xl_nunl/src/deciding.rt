@@ -1,13 +1,13 @@
 ghost use Rattle.std.specs.Prelude.{◌≡◌, ◌+◌, ◌-◌, ◌≤◌, ◌<◌, ◌/◌, ◌&&◌, ◌==◌, not, count_by, length, take, is_some, None, Some};
 ghost use Rattle.xl_lists.specs.Lists.{is_on};
-ghost use Rattle.xl_nunl.specs.Lists.{IsNegative, MayBeInForce, least_quorum as least_quorum_of, list_without, staying};
+ghost use Rattle.xl_nunl.specs.Lists.{IsNegative, MayBeInForce, least_quorum as least_quorum_of, list_without, staying_members};
 ghost use Rattle.xl_nunl.specs.Deciding.{
   score_at,
   is_better as is_better_of,
   is_worse as is_worse_of,
   hears_little as hears_little_of,
-  leaving as leaving_of,
-  joining as joining_of,
+  leaving_member as leaving_of,
+  joining_member as joining_of,
   candidates,
   without,
   left_of,
@@ -264,7 +264,7 @@ fn put_staying(
     joined: &Option<NodeNo>,
 ) -> usize
     ensures within { result ≤ 64 }
-    ensures put { take result room.new ≡ staying full.now.members (negative_after negative.now left.now joined.now) }
+    ensures put { take result room.new ≡ staying_members full.now.members (negative_after negative.now left.now joined.now) }
 {
     let mut len = 0;
     for below in 0..GREATEST_NODE_NO {

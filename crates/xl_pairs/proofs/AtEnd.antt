@@ -8,7 +8,7 @@ use Rattle.xl_sched.specs.Answers.{LineAnswer, passes, gives, refuses, reading_o
 use Rattle.xl_sched.specs.declared.line.Line.{Line}
 use Rattle.xl_sched.specs.declared.line.Line.TheVariants as line
 use Rattle.xl_sched.specs.declared.refusal.SchedRefusal.TheVariants.{Header}
-use Rattle.xl_pairs.specs.Comparing.{Comparing, after_answer, unless_foreign, ending, rules}
+use Rattle.xl_pairs.specs.Comparing.{Comparing, after_answer, unless_foreign, told_at_end, rules}
 use Rattle.xl_pairs.specs.Texts.{bad_line, pair_lines}
 use Rattle.xl_pairs.specs.Words.{foreign_word}
 
@@ -26,7 +26,7 @@ step_finds c bytes ended =
     cond_both (c.reading.lines == 0) (after_answer c (reading_of c.reading 0 bytes)) (unless_foreign c (foreign_word bytes) bytes) (FindsNothing {S = Comparing})
     (λ _. answer_finds c (reading_of c.reading 0 bytes)) (λ _. word_finds c (foreign_word bytes) bytes)
 
-closes_at_end : (c : Comparing) → (ending c).closed ≡ true
+closes_at_end : (c : Comparing) → (told_at_end c).closed ≡ true
 closes_at_end c =
     cond_both (c.reading.lines == 0) (closes (bad_line 1 (Header [])) Refused) (closes (pair_lines c.liars c.nodes) Good) (λ told. told.closed ≡ true)
     (λ _. refl) (λ _. refl)

@@ -58,15 +58,15 @@ beyond overrun.LongLine = LongLine (decimal most_bytes)
 beyond overrun.ManyLines = Limit (decimal most_lines)
 
 -- the end of a schedule: one with no line lacks its header
-abbrev pub ending : Comparing → Told
-ending c =
+abbrev pub told_at_end : Comparing → Told
+told_at_end c =
     if c.reading.lines == 0 then closes (bad_line 1 (Header [])) Refused else closes (pair_lines c.liars c.nodes) Good
 
 abbrev pub rules : Rules Comparing
 rules = record {
   step = λ c bytes _. step_of c bytes;
   overrun = λ c overrun. bad_line (c.reading.lines + 1) (beyond overrun);
-  closing = ending;
+  closing = told_at_end;
 }
 
 abbrev pub limits : Limits

@@ -10,7 +10,7 @@ use Rattle.xl_turns.specs.Passes.{known}
 use Rattle.xl_links.specs.Links.{Wire}
 use Rattle.xl_core.specs.declared.event.CoreEvent.TheVariants.{Drain}
 use Rattle.xl_core.specs.Answers.{Gave}
-use Rattle.xl_core.specs.Queues.{joined}
+use Rattle.xl_core.specs.Queues.{stream_of}
 use Rattle.xl_store.specs.declared.entry.Entry.{Entry}
 use Rattle.xl_store.specs.declared.store.Store.{Store}
 use Rattle.xl_store.specs.Calls.{Made}
@@ -32,11 +32,11 @@ some_long [] n e = absurd (omega (arith, e))
 some_long (b ∷ bs) n e = λ same. absurd cc
 
 drain_run : (may : ℕ → Bool) (member : ℕ) (steps : List Step) (frames : List (List ℕ)) (count : ℕ)
-    → count ≡ length (joined frames)
+    → count ≡ length (stream_of frames)
     → IsSession may member steps Drains → IsSession may member (steps ++ drain member frames ∷ []) (after_drain count)
-drain_run may member steps frames zero e run = IsSession.drained steps frames run (none_long (joined frames) (sym e))
+drain_run may member steps frames zero e run = IsSession.drained steps frames run (none_long (stream_of frames) (sym e))
 drain_run may member steps frames (suc n) e run =
-    IsSession.drains steps frames run (some_long (joined frames) n (sym e))
+    IsSession.drains steps frames run (some_long (stream_of frames) n (sym e))
 
 module _ {B K : Type 0} (store : Store B K) (may : ℕ → Bool) (member : ℕ) (k0 : Knowledge Entry) (w0 : Wire)
     (old new : Pass Entry) (count : ℕ) (before after : List ℕ) (whole : length before ≡ longest_frame)
@@ -53,8 +53,8 @@ module _ {B K : Type 0} (store : Store B K) (may : ℕ → Bool) (member : ℕ) 
   later = let more = d.called.later in omega (arith, more)
 
   -- the room begins with the frames
-  given : take count after ≡ joined d.frames
-  given = ap (take count) d.room ∙ take_at (joined d.frames) (drop count before) count (sym d.count)
+  given : take count after ≡ stream_of d.frames
+  given = ap (take count) d.room ∙ take_at (stream_of d.frames) (drop count before) count (sym d.count)
 
   pub so_drained : Sent w (take count after) new_link
       → SoFar (start_of store) may member k0 w0 (after_drain count) (known new) new_link held

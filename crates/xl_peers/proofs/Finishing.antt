@@ -12,7 +12,7 @@ use Rattle.xl_links.specs.Links.{Wire}
 use Rattle.xl_core.specs.declared.event.CoreEvent.TheVariants.{Drain}
 use Rattle.xl_core.specs.Answers.{Gave}
 use Rattle.xl_core.specs.Core.{Core}
-use Rattle.xl_core.specs.Queues.{joined}
+use Rattle.xl_core.specs.Queues.{stream_of}
 use Rattle.xl_store.specs.declared.entry.Entry.{Entry}
 use Rattle.xl_store.specs.declared.store.Store.{Store}
 use Rattle.xl_store.specs.declared.store.StoreEnd.{StoreEnd}
@@ -55,11 +55,11 @@ module _ (start : Core) (turns : ℕ) (may_give : ℕ → Bool) (member : ℕ) (
       (p : Phase) → IsSession may_give member (s.steps ++ drain member frames ∷ []) p
       → Made start k new (record { event = Drain member longest_frame; answer = Gave member frames } ∷ [])
       → k.drawn ≤ new.drawn
-      → SentFront w (joined frames) new_link
+      → SentFront w (stream_of frames) new_link
       → Session start turns may_give member k0 w0 end.LinkFault new new_link
   ends_cut k new w new_link held frames s p run made drawn sent =
       let step = drain member frames in
-      let given : bytes_drained (s.steps ++ step ∷ []) ≡ bytes_drained s.steps ++ joined frames =
+      let given : bytes_drained (s.steps ++ step ∷ []) ≡ bytes_drained s.steps ++ stream_of frames =
       more drained_in s.steps step in
       let rose : Rose w0.faults new_link.faults = (let a = s.later in let b = sent.failed in omega arith) in
       let cut : IsCutOff member (s.steps ++ step ∷ []) (bytes_drained s.steps ++ sent.written) =

@@ -4,7 +4,7 @@ use Rattle.std.proofs.Common.{◌++◌, length, slice_index, Option, Some, None,
 use Rattle.std.proofs.lemmas.Bool.Decides.{nat_tests}
 use Rattle.std.proofs.lemmas.List.{length-append}
 use Rattle.xl_base.specs.Refusals.{refused_if, first_of}
-use Rattle.xl_wire.specs.Lengths.{longest_frame}
+use Rattle.xl_wire.specs.Lengths.{longest_frame, longest_body}
 use Rattle.xl_wire.specs.declared.refusal.WireRefusal.{WireRefusal}
 use Rattle.xl_wire.specs.declared.refusal.WireRefusal.TheVariants.{Magic, Version, Kind, Length}
 use Rattle.xl_wire.specs.Kinds.{is_version, is_kind, can_have, can_have_first}
@@ -245,10 +245,10 @@ lawful b true r h e = refl
 lawful true false r h e = absurd cc
 lawful false false r h e = absurd cc
 
-at_most : (version kind n : ℕ) → can_have version kind n ≡ true → n ≤ 8194
-at_most = by_version (λ version kind n. n ≤ 8194) first (omega arith)
+at_most : (version kind n : ℕ) → can_have version kind n ≡ true → n ≤ longest_body
+at_most = by_version (λ version kind n. n ≤ longest_body) first (omega arith)
   where
-    first : (kind n : ℕ) → can_have_first kind n ≡ true → n ≤ 8194
+    first : (kind n : ℕ) → can_have_first kind n ≡ true → n ≤ longest_body
     first kind n h = grind (arith, nat_tests)
 
 room_by : (bytes : List ℕ) (b : Bool) → nat_lt 5 (length bytes) ≡ b → head_refusal bytes ≡ None → 0 < lacking bytes

@@ -14,7 +14,7 @@ use Rattle.xl_links.specs.Tellings.{AddsTold}
 use Rattle.xl_core.specs.declared.event.CoreEvent.TheVariants.{Frame}
 use Rattle.xl_core.specs.Answers.{Answer, given_in}
 use Rattle.xl_core.specs.Core.{Core}
-use Rattle.xl_core.specs.Queues.{joined}
+use Rattle.xl_core.specs.Queues.{stream_of}
 use Rattle.xl_store.specs.declared.entry.Entry.{Entry}
 use Rattle.xl_store.specs.Calls.{Call, Made}
 use Rattle.xl_store.proofs.Making.{made_both}
@@ -89,7 +89,7 @@ module _ (start : Core) (may_give : ℕ → Bool) (member : ℕ) (k0 : Knowledge
       → handed_by c.event ≡ []
       → Made start k new (c ∷ [])
       → k.drawn ≤ new.drawn
-      → Sent w (joined (given_in c.answer)) new_link
+      → Sent w (stream_of (given_in c.answer)) new_link
       → IsSession may_give member (s.steps ++ Called c ∷ []) after
       → SoFar start may_give member k0 w0 after new new_link held
   so_called before after k new w new_link held c s none made drawn sent run = record {
@@ -101,8 +101,8 @@ module _ (start : Core) (may_give : ℕ → Bool) (member : ℕ) (k0 : Knowledge
     read = s.read ∙ ap (λ (known : Option (List ℕ)). prepend_known (bytes_read s.steps) known) (sym sent.left)
         ∙ ap (λ (bs : List ℕ). prepend_known bs new_link.left)
         (sym (more read_in s.steps (Called c) ∙ append-nil (bytes_read s.steps)));
-    took = sent.took ∙ ap (λ (known : Option (List ℕ)). append_known known (joined (given_in c.answer))) s.took
-        ∙ append_known-twice w0.took (bytes_drained s.steps) (joined (given_in c.answer))
+    took = sent.took ∙ ap (λ (known : Option (List ℕ)). append_known known (stream_of (given_in c.answer))) s.took
+        ∙ append_known-twice w0.took (bytes_drained s.steps) (stream_of (given_in c.answer))
         ∙ ap (append_known w0.took) (sym (more drained_in s.steps (Called c)));
     openings = sent.openings ∙ s.openings;
     readings = tells_same w0.readings w.readings new_link.readings (read_answers s.steps)
@@ -118,7 +118,7 @@ module _ (start : Core) (may_give : ℕ → Bool) (member : ℕ) (k0 : Knowledge
       (none : handed_by c.event ≡ [])
       (made : Made start k new (c ∷ []))
       (drawn : k.drawn ≤ new.drawn)
-      (sent : Sent w (joined (given_in c.answer)) new_link)
+      (sent : Sent w (stream_of (given_in c.answer)) new_link)
       (run : IsSession may_give member (s.steps ++ Called c ∷ []) after)
       → IsLast (so_called before after k new w new_link held c s none made drawn sent run).steps (Called c)
   unfolding so_called
@@ -172,7 +172,7 @@ module _ (start : Core) (may_give : ℕ → Bool) (member : ℕ) (k0 : Knowledge
   so_handed k new w now answer f rest s ok may fit made drawn gave =
       let step = frame now (raw_bytes f) answer in
       let first = first_handed s.steps now answer f rest ok s.first in
-      let nothing : drained_in step ≡ [] = ap joined gave in
+      let nothing : drained_in step ≡ [] = ap stream_of gave in
       record {
         steps = s.steps ++ step ∷ [];
         run = IsSession.hands s.steps now (raw_bytes f) answer rest s.run may first;

@@ -12,12 +12,12 @@ use Rattle.xl_links.specs.Links.{Wire, Reading}
 use Rattle.xl_links.specs.Tellings.{AddsTold}
 use Rattle.xl_core.specs.Answers.{Answer}
 use Rattle.xl_core.specs.Core.{Core}
-use Rattle.xl_core.specs.Queues.{joined}
+use Rattle.xl_core.specs.Queues.{stream_of}
 use Rattle.xl_store.specs.declared.entry.Entry.{Entry}
 use Rattle.xl_store.specs.Calls.{Made}
 use Rattle.xl_peers.specs.declared.ends.End.{End}
 use Rattle.xl_peers.specs.declared.ends.End.TheVariants as end
-use Rattle.xl_peers.specs.Steps.{Step, Read, greet, stopped, drain, frame, calls, bytes_read, bytes_drained}
+use Rattle.xl_peers.specs.Steps.{Step, Read, greet, stop_step, drain, frame, calls, bytes_read, bytes_drained}
 use Rattle.xl_peers.specs.Steps.{frames_handed, read_answers, IsLast}
 
 -- What was handed to the core are the first frames of the bytes read, each once and in order, and this is the rest
@@ -56,14 +56,14 @@ pub data IsSession (may_give : ℕ → Bool) (member : ℕ) : List Step → Phas
   greets : (steps : List Step) → IsSession may_give member steps Greets
       → IsSession may_give member (steps ++ greet member ∷ []) Asks
   goes_on : (steps : List Step) → IsSession may_give member steps Asks
-      → IsSession may_give member (steps ++ stopped false ∷ []) Drains
+      → IsSession may_give member (steps ++ stop_step false ∷ []) Drains
   stops : (steps : List Step) → IsSession may_give member steps Asks
-      → IsSession may_give member (steps ++ stopped true ∷ []) Ended
+      → IsSession may_give member (steps ++ stop_step true ∷ []) Ended
   drains : (steps : List Step) (frames : List (List ℕ)) → IsSession may_give member steps Drains
-      → joined frames ≢ []
+      → stream_of frames ≢ []
       → IsSession may_give member (steps ++ drain member frames ∷ []) Drains
   drained : (steps : List Step) (frames : List (List ℕ)) → IsSession may_give member steps Drains
-      → joined frames ≡ []
+      → stream_of frames ≡ []
       → IsSession may_give member (steps ++ drain member frames ∷ []) Reads
   reads : (steps : List Step) (reading : Reading) → IsSession may_give member steps Reads
       → reading ≢ Reading.Got []
@@ -83,7 +83,7 @@ pub record IsCutOff (member : ℕ) (steps : List Step) (written : List ℕ) : Ty
   pub frames : List (List ℕ)
   pub front : List ℕ
   pub last : steps ≡ earlier ++ drain member frames ∷ []
-  pub part : IsPrefix front (joined frames)
+  pub part : IsPrefix front (stream_of frames)
   pub is : written ≡ bytes_drained earlier ++ front
 
 -- a whole frame stands next
@@ -103,7 +103,7 @@ IsDue steps Ended = ⊥
 -- write failed; or a call of the store is due, for which memory ran out, or no turn is left
 abbrev pub EndsBy : ℕ → List Step → Phase → List ℕ → End → Type 0
 EndsBy member steps phase written end.End = IsLast steps (Read Reading.End)
-EndsBy member steps phase written end.Stopped = IsLast steps (stopped true)
+EndsBy member steps phase written end.Stopped = IsLast steps (stop_step true)
 EndsBy member steps phase written (end.Framing refusal) =
     (phase ≡ Hands) × (rest : List ℕ) × HandsFirst steps rest × (split_of rest ≡ Split.Refused refusal)
 EndsBy member steps phase written end.LinkFault = IsLast steps (Read Reading.Failed) ⊎ IsCutOff member steps written

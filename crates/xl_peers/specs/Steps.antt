@@ -7,7 +7,7 @@ use Rattle.xl_core.specs.declared.event.CoreEvent.{CoreEvent}
 use Rattle.xl_core.specs.declared.event.CoreEvent.TheVariants.{Issue, Frame, Timer, Submit, Greet, Drain, Reports, Stop}
 use Rattle.xl_core.specs.declared.event.CoreEvent.TheVariants.{Stopped, Relist}
 use Rattle.xl_core.specs.Answers.{Answer, Done, Gave, Told, given_in}
-use Rattle.xl_core.specs.Queues.{joined}
+use Rattle.xl_core.specs.Queues.{stream_of}
 use Rattle.xl_store.specs.Calls.{Call}
 
 pub data Step : Type 0 where
@@ -18,8 +18,8 @@ abbrev pub greet : ℕ → Step
 greet member = Called (record { event = Greet member; answer = Done })
 
 -- whether the node is to stop
-abbrev pub stopped : Bool → Step
-stopped answer = Called (record { event = Stopped; answer = Told answer })
+abbrev pub stop_step : Bool → Step
+stop_step answer = Called (record { event = Stopped; answer = Told answer })
 
 -- a drain into a room for the longest frame, and the frames that it gave
 abbrev pub drain : ℕ → List (List ℕ) → Step
@@ -42,7 +42,7 @@ readings_in (Called call) = []
 readings_in (Read reading) = reading ∷ []
 
 abbrev pub drained_in : Step → List ℕ
-drained_in (Called call) = joined (given_in call.answer)
+drained_in (Called call) = stream_of (given_in call.answer)
 drained_in (Read reading) = []
 
 -- the bytes that an event hands to the core

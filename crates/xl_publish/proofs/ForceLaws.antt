@@ -11,6 +11,7 @@ use Rattle.xl_lists.specs.declared.refusal.ListRefusal.TheVariants.{Empty, TooMa
 use Rattle.xl_lists.specs.Lists.{TrustedList, is_on, is_outside, repeated_after, is_quorum, all_numbers, rising, list_of}
 use Rattle.xl_publish.specs.Forces.{usual_list}
 use Rattle.xl_publish.specs.Rolls.{RisesFrom}
+use Rattle.xl_base.specs.Members.{greatest_node_no}
 
 -- ---- they rise
 
@@ -18,7 +19,7 @@ rises_more : (before m : ℕ) (ms : List ℕ) → before ≤ m → RisesFrom m m
 rises_more before m [] le h = tt
 rises_more before m (k ∷ ms) le h = (omega (arith, h.0), h.1, h.2)
 
-rises_filter : (p : ℕ → Bool) (before a n : ℕ) → before < a → a + n ≤ 65 → RisesFrom before (filter p (range_with_len a n))
+rises_filter : (p : ℕ → Bool) (before a n : ℕ) → before < a → a + n ≤ (greatest_node_no + 1) → RisesFrom before (filter p (range_with_len a n))
 rises_filter p before a zero lt le = tt
 rises_filter p before a (suc n) lt le =
     let rest : RisesFrom a (filter p (range_with_len (a + 1) n)) = rises_filter p a (a + 1) n (omega arith) (omega arith) in

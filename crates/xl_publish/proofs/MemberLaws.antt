@@ -8,22 +8,23 @@ use Rattle.byteorder.specs.Endian.{big_number}
 use Rattle.xl_lists.specs.Lists.{is_on}
 use Rattle.xl_publish.specs.Fields.{count_in, numbers_in, members_in}
 use Rattle.xl_publish.specs.Refusing.{first_wrong, may_follow}
+use Rattle.xl_publish.specs.declared.reading.TheConstants.{HEAD}
 
 -- the members from a place on
 abbrev pub left_at : ℕ → List ℕ → List ℕ
-left_at place bytes = numbers_in (count_in bytes - place) (drop (21 + 4 * place) bytes)
+left_at place bytes = numbers_in (count_in bytes - place) (drop (HEAD + 4 * place) bytes)
 
 abbrev pub member_in : ℕ → List ℕ → ℕ
-member_in place bytes = big_number 4 (drop (21 + 4 * place) bytes)
+member_in place bytes = big_number 4 (drop (HEAD + 4 * place) bytes)
 
 pub all_left : (bytes : List ℕ) → left_at 0 bytes ≡ members_in bytes
-all_left bytes = ap (λ (k : ℕ). numbers_in k (drop 21 bytes)) (omega arith)
+all_left bytes = ap (λ (k : ℕ). numbers_in k (drop HEAD bytes)) (omega arith)
 
 pub left_more : (place : ℕ) (bytes : List ℕ) → place < count_in bytes → left_at place bytes ≡ member_in place bytes ∷ left_at (place + 1) bytes
 left_more place bytes lt =
     let one : count_in bytes - place ≡ suc (count_in bytes - (place + 1)) = omega arith in
-    let next : drop 4 (drop (21 + 4 * place) bytes) ≡ drop (21 + 4 * (place + 1)) bytes = drop-drop 4 (21 + 4 * place) bytes ∙ ap (λ (k : ℕ). drop k bytes) (omega arith) in
-    ap (λ (k : ℕ). numbers_in k (drop (21 + 4 * place) bytes)) one
+    let next : drop 4 (drop (HEAD + 4 * place) bytes) ≡ drop (HEAD + 4 * (place + 1)) bytes = drop-drop 4 (HEAD + 4 * place) bytes ∙ ap (λ (k : ℕ). drop k bytes) (omega arith) in
+    ap (λ (k : ℕ). numbers_in k (drop (HEAD + 4 * place) bytes)) one
     ∙ ap (λ (x : List ℕ). member_in place bytes ∷ numbers_in (count_in bytes - (place + 1)) x) next
 
 -- a member that may follow is passed over

@@ -18,6 +18,7 @@ use Rattle.xl_publish.specs.declared.roll.Roll.{Roll}
 use Rattle.xl_publish.specs.Rolls.{member_bytes, said_bytes, length_of, RisesFrom, IsRoll}
 use Rattle.xl_publish.specs.Fields.{publisher_in, seq_in, from_in, until_in, count_in, numbers_in, members_in, said_in, tag_in, roll_in, IsShaped}
 use Rattle.xl_publish.specs.Refusing.{differs, is_count, wanted, shape_refusal, of_publisher, tag_refusal, may_follow, first_wrong, said_refusal, refusal_of, IsRight}
+use Rattle.xl_publish.specs.declared.reading.TheConstants.{HEAD}
 use Rattle.xl_publish.proofs.PutLaws.{length-said_bytes}
 use Rattle.xl_publish.proofs.RegisterLaws.{Places}
 
@@ -83,11 +84,11 @@ right_byte n place byte want lt h = grind (arith, nat_tests)
 byte_right : (n place byte want : ℕ) → byte ≡ want → (nat_lt place n && not (byte == want)) ≡ false
 byte_right n place byte want is = grind (arith, nat_tests)
 
-right_length : (n count w : ℕ) → (n < 21 → w ≡ 21) → (21 ≤ n → w ≡ length_of count) → (nat_le 21 n && not (is_count count)) ≡ false → nat_lt n w ≡ false → nat_lt w n ≡ false →
+right_length : (n count w : ℕ) → (n < HEAD → w ≡ HEAD) → (HEAD ≤ n → w ≡ length_of count) → (nat_le HEAD n && not (is_count count)) ≡ false → nat_lt n w ≡ false → nat_lt w n ≡ false →
     (1 ≤ count) × (count ≤ 64) × (n ≡ length_of count)
 right_length n count w low high counted short long =
-    elim (cases_lt n 21) [
-      | inl lt ↦ let same : w ≡ 21 = low lt in absurd (let no : w ≤ n = grind (arith, nat_tests) in omega (arith, no, lt, same))
+    elim (cases_lt n HEAD) [
+      | inl lt ↦ let same : w ≡ HEAD = low lt in absurd (let no : w ≤ n = grind (arith, nat_tests) in omega (arith, no, lt, same))
       | inr le ↦
           let same : w ≡ length_of count = high le in
           let least : 1 ≤ count = grind (arith, nat_tests) in
@@ -97,20 +98,20 @@ right_length n count w low high counted short long =
           (least, most, omega (arith, same, no, yes'))
     ]
 
-is_low : (n : ℕ) → n < 21 → nat_lt n 21 ≡ true
+is_low : (n : ℕ) → n < HEAD → nat_lt n HEAD ≡ true
 is_low n lt = grind (arith, nat_tests)
 
-is_high : (n : ℕ) → 21 ≤ n → nat_lt n 21 ≡ false
+is_high : (n : ℕ) → HEAD ≤ n → nat_lt n HEAD ≡ false
 is_high n le = grind (arith, nat_tests)
 
-wanted_low : (bytes : List ℕ) → length bytes < 21 → wanted bytes ≡ 21
-wanted_low bytes lt = cond-true (nat_lt (length bytes) 21) 21 (length_of (count_in bytes)) (is_low (length bytes) lt)
+wanted_low : (bytes : List ℕ) → length bytes < HEAD → wanted bytes ≡ HEAD
+wanted_low bytes lt = cond-true (nat_lt (length bytes) HEAD) HEAD (length_of (count_in bytes)) (is_low (length bytes) lt)
 
-wanted_high : (bytes : List ℕ) → 21 ≤ length bytes → wanted bytes ≡ length_of (count_in bytes)
-wanted_high bytes le = cond-false (nat_lt (length bytes) 21) 21 (length_of (count_in bytes)) (is_high (length bytes) le)
+wanted_high : (bytes : List ℕ) → HEAD ≤ length bytes → wanted bytes ≡ length_of (count_in bytes)
+wanted_high bytes le = cond-false (nat_lt (length bytes) HEAD) HEAD (length_of (count_in bytes)) (is_high (length bytes) le)
 
 abbrev is_miscounted : List ℕ → Bool
-is_miscounted bytes = nat_le 21 (length bytes) && not (is_count (count_in bytes))
+is_miscounted bytes = nat_le HEAD (length bytes) && not (is_count (count_in bytes))
 
 headed : (bytes : List ℕ) → shape_refusal bytes ≡ None → IsHeaded bytes
 headed bytes h =
@@ -125,7 +126,7 @@ headed bytes h =
       shaped = record { some = long.0; most = long.1; long = long.2 };
     }
 
-right_count : (n count : ℕ) → 1 ≤ count → count ≤ 64 → (nat_le 21 n && not (is_count count)) ≡ false
+right_count : (n count : ℕ) → 1 ≤ count → count ≤ 64 → (nat_le HEAD n && not (is_count count)) ≡ false
 right_count n count least most = grind (arith, nat_tests)
 
 not_below : (a b : ℕ) → a ≡ b → nat_lt a b ≡ false
@@ -201,10 +202,10 @@ front (x ∷ y ∷ z ∷ bytes) long a b c = cc
 seven : (p s f u c ms rest : List ℕ) → p ++ s ++ f ++ u ++ c ++ ms ++ rest ≡ p ++ (s ++ (f ++ (u ++ (c ++ (ms ++ rest)))))
 seven p s f u c ms rest = simp append_assoc
 
-said_again : (bytes : List ℕ) → IsBytes bytes → IsHeaded bytes → bytes ≡ said_bytes (roll_in bytes) ++ drop (21 + 4 * count_in bytes) bytes
+said_again : (bytes : List ℕ) → IsBytes bytes → IsHeaded bytes → bytes ≡ said_bytes (roll_in bytes) ++ drop (HEAD + 4 * count_in bytes) bytes
 said_again bytes fits ok =
     let n = count_in bytes in
-    let rest = drop (21 + 4 * n) bytes in
+    let rest = drop (HEAD + 4 * n) bytes in
     let long = ok.shaped.long in
     let p = big_bytes 4 (publisher_in bytes) in
     let s = big_bytes 4 (seq_in bytes) in
@@ -216,12 +217,12 @@ said_again bytes fits ok =
     let e2 : drop 7 bytes ≡ s ++ drop 11 bytes = number_at_4 7 bytes fits (omega (arith, long)) in
     let e3 : drop 11 bytes ≡ f ++ drop 15 bytes = number_at_4 11 bytes fits (omega (arith, long)) in
     let e4 : drop 15 bytes ≡ u ++ drop 19 bytes = number_at_4 15 bytes fits (omega (arith, long)) in
-    let e5 : drop 19 bytes ≡ big_bytes 2 n ++ drop 21 bytes = number_at_2 19 bytes fits (omega (arith, long)) in
-    let e6 : drop 21 bytes ≡ ms ++ rest = numbers_spelled n (drop 21 bytes) (IsBytes-drop 21 bytes fits) (omega (arith, length-drop 21 bytes, long))
-    ∙ ap (λ (x : List ℕ). ms ++ x) (drop-drop (4 * n) 21 bytes) in
-    let count : big_bytes 2 n ≡ big_bytes 2 (length (members_in bytes)) = ap (big_bytes 2) (sym (length-numbers_in n (drop 21 bytes))) in
-    joined p s f u (big_bytes 2 (length (members_in bytes))) ms rest bytes (drop 3 bytes) (drop 7 bytes) (drop 11 bytes) (drop 15 bytes) (drop 19 bytes) (drop 21 bytes)
-    e0 e1 e2 e3 e4 (e5 ∙ ap (λ (x : List ℕ). x ++ drop 21 bytes) count) e6
+    let e5 : drop 19 bytes ≡ big_bytes 2 n ++ drop HEAD bytes = number_at_2 19 bytes fits (omega (arith, long)) in
+    let e6 : drop HEAD bytes ≡ ms ++ rest = numbers_spelled n (drop HEAD bytes) (IsBytes-drop HEAD bytes fits) (omega (arith, length-drop HEAD bytes, long))
+    ∙ ap (λ (x : List ℕ). ms ++ x) (drop-drop (4 * n) HEAD bytes) in
+    let count : big_bytes 2 n ≡ big_bytes 2 (length (members_in bytes)) = ap (big_bytes 2) (sym (length-numbers_in n (drop HEAD bytes))) in
+    joined p s f u (big_bytes 2 (length (members_in bytes))) ms rest bytes (drop 3 bytes) (drop 7 bytes) (drop 11 bytes) (drop 15 bytes) (drop 19 bytes) (drop HEAD bytes)
+    e0 e1 e2 e3 e4 (e5 ∙ ap (λ (x : List ℕ). x ++ drop HEAD bytes) count) e6
   where
     joined : (p s f u c ms rest b0 b1 b2 b3 b4 b5 b6 : List ℕ) → b0 ≡ 0x58 ∷ 0x50 ∷ 1 ∷ b1 → b1 ≡ p ++ b2 → b2 ≡ s ++ b3 → b3 ≡ f ++ b4 → b4 ≡ u ++ b5 → b5 ≡ c ++ b6 → b6 ≡ ms ++ rest
         → b0 ≡ ((0x58 ∷ 0x50 ∷ 1 ∷ []) ++ p ++ s ++ f ++ u ++ c ++ ms) ++ rest
@@ -259,10 +260,10 @@ right_spelled keys bytes fits h =
     let n = count_in bytes in
     let tag = right_tag (of_publisher keys (publisher_in bytes)) bytes all.1 in
     let again = said_again bytes fits ok in
-    let count : length (members_in bytes) ≡ n = length-numbers_in n (drop 21 bytes) in
-    let long : length (said_bytes (roll_in bytes)) ≡ 21 + 4 * n = length-said_bytes (roll_in bytes) ∙ ap (λ (k : ℕ). 21 + 4 * k) count in
-    let said : said_in bytes ≡ said_bytes (roll_in bytes) = ap (take (21 + 4 * n)) again ∙ take_at (said_bytes (roll_in bytes)) (drop (21 + 4 * n) bytes) (21 + 4 * n) long in
-    let last : tag_in bytes ≡ drop (21 + 4 * n) bytes = take_all 32 (drop (21 + 4 * n) bytes) (omega (arith, length-drop (21 + 4 * n) bytes, ok.shaped.long)) in
+    let count : length (members_in bytes) ≡ n = length-numbers_in n (drop HEAD bytes) in
+    let long : length (said_bytes (roll_in bytes)) ≡ HEAD + 4 * n = length-said_bytes (roll_in bytes) ∙ ap (λ (k : ℕ). HEAD + 4 * k) count in
+    let said : said_in bytes ≡ said_bytes (roll_in bytes) = ap (take (HEAD + 4 * n)) again ∙ take_at (said_bytes (roll_in bytes)) (drop (HEAD + 4 * n) bytes) (HEAD + 4 * n) long in
+    let last : tag_in bytes ≡ drop (HEAD + 4 * n) bytes = take_all 32 (drop (HEAD + 4 * n) bytes) (omega (arith, length-drop (HEAD + 4 * n) bytes, ok.shaped.long)) in
     record {
       key = tag.0;
       keyed = tag.1;
@@ -335,10 +336,10 @@ spelled_right keys r bytes right =
     let ok = right.fits in
     let s : Says r bytes = subst (Says r) (sym right.spelling) (says r tag ok) in
     let n = count_in bytes in
-    let count : 21 + 4 * n ≡ length said = ap (λ (k : ℕ). 21 + 4 * k) s.count ∙ sym (length-said_bytes r) in
+    let count : HEAD + 4 * n ≡ length said = ap (λ (k : ℕ). HEAD + 4 * k) s.count ∙ sym (length-said_bytes r) in
     let long : length bytes ≡ length_of n = omega (arith, ap length right.spelling, length-append said tag, length-mac key said, count) in
     let first : said_in bytes ≡ said = ap (λ (k : ℕ). take k bytes) count ∙ ap (take (length said)) right.spelling ∙ take_at said tag (length said) refl in
-    let rest : drop (21 + 4 * n) bytes ≡ tag = ap (λ (k : ℕ). drop k bytes) count ∙ ap (drop (length said)) right.spelling ∙ drop_at said tag (length said) refl in
+    let rest : drop (HEAD + 4 * n) bytes ≡ tag = ap (λ (k : ℕ). drop k bytes) count ∙ ap (drop (length said)) right.spelling ∙ drop_at said tag (length said) refl in
     let last : tag_in bytes ≡ tag = ap (take 32) rest ∙ take_all 32 tag (omega (arith, length-mac key said)) in
     let headed : IsHeaded bytes = record {
       first = ap (λ (x : List ℕ). slice_index x 0) right.spelling;

@@ -12,7 +12,7 @@ use Rattle.xl_world.specs.Forks.{first_fork}
 use Rattle.xl_running.specs.Texts.{bad_line}
 use Rattle.xl_replay.specs.Texts.{end_lines}
 use Rattle.xl_running.specs.Running.{Running, answer_in, knows, world_of}
-use Rattle.xl_replay.specs.Replays.{after_line, after_answer, verdict_of, ending, rules}
+use Rattle.xl_replay.specs.Replays.{after_line, after_answer, verdict_of, told_at_end, rules}
 
 line_finds : (r : Running) (l : Line) → FindsNothing (after_line r l)
 line_finds r (line.Limit limit) = tt
@@ -29,7 +29,7 @@ answer_finds r (passes reading) = tt
 answer_finds r (gives l reading) = line_finds (knows r reading) l
 answer_finds r (refuses why) = tt
 
-closes_at_end : (r : Running) → (ending r).closed ≡ true
+closes_at_end : (r : Running) → (told_at_end r).closed ≡ true
 closes_at_end r =
     cond_both (r.reading.lines == 0) (closes (bad_line 1 (Header [])) IsRefused) (closes (end_lines r.reading.names (world_of r)) (verdict_of (first_fork (world_of r).reports)))
     (λ told. told.closed ≡ true) (λ _. refl) (λ _. refl)

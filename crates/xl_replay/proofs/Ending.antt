@@ -14,7 +14,7 @@ use Rattle.xl_running.specs.Texts.{bad_line}
 use Rattle.xl_replay.specs.Texts.{short_lines, forged_line, agreement_line, end_lines}
 use Rattle.xl_running.specs.Running.{Running, answer_in, beyond, knows, world_of}
 use Rattle.xl_running.proofs.Aloud.{bad_some, line_some}
-use Rattle.xl_replay.specs.Replays.{after_line, after_answer, verdict_of, ending, rules}
+use Rattle.xl_replay.specs.Replays.{after_line, after_answer, verdict_of, told_at_end, rules}
 
 line_aloud : (r : Running) (l : Line) → RefusesAloud (after_line r l)
 line_aloud r (line.Limit limit) = tt
@@ -37,7 +37,7 @@ middle_some shorts n last =
     let some : 0 < length (forged_line n) = line_some (codes "forged " ++ decimal n) in
     omega (arith, some, length-append (shorts ++ forged_line n) last, length-append shorts (forged_line n))
 
-ending_some : (r : Running) → 0 < length (ending r).text
+ending_some : (r : Running) → 0 < length (told_at_end r).text
 ending_some r =
     cond_both (r.reading.lines == 0) (closes (bad_line 1 (Header [])) IsRefused) (closes (end_lines r.reading.names (world_of r)) (verdict_of (first_fork (world_of r).reports)))
     (λ told. 0 < length told.text)

@@ -24,7 +24,7 @@ use Rattle.xl_world.proofs.Reporters.{IsReporter, world_reporters}
 use Rattle.xl_running.specs.Texts.{bad_line}
 use Rattle.xl_replay.specs.Texts.{forged_line, agreement_line, end_lines}
 use Rattle.xl_running.specs.Running.{Running, at_first, limits, world_of}
-use Rattle.xl_replay.specs.Replays.{ending, verdict_of, rules, report_of}
+use Rattle.xl_replay.specs.Replays.{told_at_end, verdict_of, rules, report_of}
 use Rattle.xl_replay.specs.Headlines.{announced_line, short_text, IsPair, is_full, full_of, outcomes_in, state_from, names_of, world_after, IsReport, IsRefusal, AddsReport}
 use Rattle.xl_replay.proofs.Shorts.{short_pairs, short_lines-pairs, pair_enough}
 use Rattle.xl_replay.proofs.Fronts.{adds_report}
@@ -113,7 +113,7 @@ Closing r told = told.verdict ≢ IsRefused →
     (told.text ≡ flat_map short_text (short_pairs (world_of r)) ++ forged_line (world_of r).forged ++ agreement_line r.reading.names (first_fork (world_of r).reports))
     × (told.verdict ≡ verdict_of (first_fork (world_of r).reports))
 
-ending_closes : (r : Running) → Closing r (ending r)
+ending_closes : (r : Running) → Closing r (told_at_end r)
 ending_closes r =
     cond_both (r.reading.lines == 0) (closes (bad_line 1 (Header [])) IsRefused) (closes (end_lines r.reading.names (world_of r)) (verdict_of (first_fork (world_of r).reports)))
     (Closing r)

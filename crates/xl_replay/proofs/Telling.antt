@@ -42,14 +42,14 @@ use Rattle.xl_io.specs.Keepers.{may_hold}
 use Rattle.xl_world.specs.Disk.{held_by, answer_of}
 use Rattle.xl_world.specs.Forks.{Fork, first_fork}
 use Rattle.xl_world.specs.World.{reported_by}
-use Rattle.xl_world.specs.World.{World, Step as WorldStep, Act, Again, Torn, Mark, IsFit, place_at, reply_at, acts, reopened, again, torn, asked_at, moment_in, step, run}
+use Rattle.xl_world.specs.World.{World, Step as WorldStep, Act, Again, Torn, Mark, IsFit, place_at, reply_at, acts, reopened_world, again, torn_world, asked_at, moment_in, step, run}
 use Rattle.xl_world.specs.Schedule.{IsPlausible, steps_at, steps_of, after_event, told_of_reply as told_at, told_of_step as told_by_step, told_in, told_of_issued, told_of_beat, told_of_answer, hearsay, hearsay_of, preference, outcomes_at, outcomes}
 use Rattle.xl_world.proofs.Settling.{at_its_number}
 use Rattle.xl_world.proofs.Keeping.{core_keeps}
 use Rattle.xl_running.specs.Texts.{bad_line}
 use Rattle.xl_replay.specs.Texts.{outcome_line, outcome_lines, end_lines}
 use Rattle.xl_running.specs.Running.{Running, beyond, declares, knows, world_of}
-use Rattle.xl_replay.specs.Replays.{silent, after_line, after_answer, verdict_of, ending, rules}
+use Rattle.xl_replay.specs.Replays.{silent, after_line, after_answer, verdict_of, told_at_end, rules}
 use Rattle.xl_replay.specs.Headlines.{Announced, announced_line, Extends, is_full, full_of, outcomes_in, state_after, state_from, IsRefusal}
 use Rattle.xl_running.proofs.Declaring.{Declares, AnswerDeclares, reading_declares}
 use Rattle.xl_running.proofs.Sounding.{IsSound, declares_reports, declares_sound, happens_sound, knows_sound}
@@ -129,10 +129,10 @@ act_adds w i e fate (Some p) at =
 again_adds : (w : World) (i now number : ℕ) (o : Option Place) → Adds w (again w i now number o) []
 again_adds w i now number None = adds_none w w refl
 again_adds w i now number (Some p) =
-    cond_both (may_hold (held_by p.disk) number) (reopened w i p now number) w (λ v. Adds w v [])
-    (λ _. adds_none w (reopened w i p now number) (append-nil w.reports)) (λ _. adds_none w w refl)
+    cond_both (may_hold (held_by p.disk) number) (reopened_world w i p now number) w (λ v. Adds w v [])
+    (λ _. adds_none w (reopened_world w i p now number) (append-nil w.reports)) (λ _. adds_none w w refl)
 
-torn_adds : (w : World) (i now number : ℕ) (o : Option Place) (asked : Option ℕ) → Adds w (torn w i now number o asked) []
+torn_adds : (w : World) (i now number : ℕ) (o : Option Place) (asked : Option ℕ) → Adds w (torn_world w i now number o asked) []
 torn_adds w i now number None asked = adds_none w w refl
 torn_adds w i now number (Some p) None = adds_none w w refl
 torn_adds w i now number (Some p) (Some s) = again_adds w i now number (Some (record { core = p.core; disk = record p.disk { asked = Some s } }))
@@ -285,8 +285,8 @@ step_tells limits left r l sound =
 -- what is told from a state on: outcomes, and the lines at the end of the last state
 pub record Ends (r : Running) (told : Told) (last : Running) : Type 0 where
   pub spoken : List Announced
-  pub written : told.text ≡ flat_map announced_line spoken ++ (ending last).text
-  pub verdict : told.verdict ≡ (ending last).verdict
+  pub written : told.text ≡ flat_map announced_line spoken ++ (told_at_end last).text
+  pub verdict : told.verdict ≡ (told_at_end last).verdict
   pub adds : Adds (world_of r) (world_of last) (outcomes_in spoken)
   pub named : All (λ s. Extends s.names last.reading.names) spoken
   pub extends : Extends r.reading.names last.reading.names
@@ -298,8 +298,8 @@ goes_on_ends r next text told last tells ends = record {
   written =
       ap (λ t. t ++ told.text) tells.written
       ∙ (ap (λ t. flat_map announced_line tells.spoken ++ t) ends.written
-      ∙ (sym (append_assoc (flat_map announced_line tells.spoken) (flat_map announced_line ends.spoken) (ending last).text)
-      ∙ ap (λ t. t ++ (ending last).text) (sym (flat_map-append announced_line tells.spoken ends.spoken))));
+      ∙ (sym (append_assoc (flat_map announced_line tells.spoken) (flat_map announced_line ends.spoken) (told_at_end last).text)
+      ∙ ap (λ t. t ++ (told_at_end last).text) (sym (flat_map-append announced_line tells.spoken ends.spoken))));
   verdict = ends.verdict;
   adds = subst (Adds (world_of r) (world_of last)) (sym (map-append (λ s. s.outcome) tells.spoken ends.spoken))
       (adds_then (world_of r) (world_of next) (world_of last) (outcomes_in tells.spoken) (outcomes_in ends.spoken) tells.adds ends.adds);
@@ -346,7 +346,7 @@ refused_then spoken text rest written x = record {
 refused_alone : (text : List ℕ) (n : ℕ) (why : SchedRefusal) → text ≡ bad_line n why → IsRefusal text
 refused_alone text n why is = record { spoken = []; line = n; refusal = why; written = is }
 
-ending_refused : (r : Running) → (ending r).verdict ≡ IsRefused → IsRefusal (ending r).text
+ending_refused : (r : Running) → (told_at_end r).verdict ≡ IsRefused → IsRefusal (told_at_end r).text
 ending_refused r =
     cond_both (r.reading.lines == 0) (closes (bad_line 1 (Header [])) IsRefused) (closes (end_lines r.reading.names (world_of r)) (verdict_of (first_fork (world_of r).reports)))
     (λ told. told.verdict ≡ IsRefused → IsRefusal told.text)

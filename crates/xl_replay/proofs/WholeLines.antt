@@ -54,7 +54,7 @@ at_one_line [] k one = refl
 at_one_line (b ∷ t) zero one = (or_false _ _ one).0
 at_one_line (b ∷ t) (suc k) one = at_one_line t k (or_false _ _ one).1
 
-encoded_one_line : (t bytes : List ℕ) → IsOneLine t → IsOneLine (encode_with t bytes)
+pub encoded_one_line : (t bytes : List ℕ) → IsOneLine t → IsOneLine (encode_with t bytes)
 unfolding encode_with
 encoded_one_line t [] one = refl
 encoded_one_line t (b ∷ bytes) one = rw (at_one_line t (b / 16) one, at_one_line t (b % 16) one) (encoded_one_line t bytes one)

@@ -44,8 +44,8 @@ verdict_of None = verdict.Good
 verdict_of (Some fork) = verdict.Found
 
 -- the end of a schedule: one with no line lacks its header
-abbrev pub ending : Running → Told
-ending r =
+abbrev pub told_at_end : Running → Told
+told_at_end r =
     if r.reading.lines == 0 then closes (bad_line 1 (Header [])) verdict.Refused
     else closes (end_lines r.reading.names (world_of r)) (verdict_of (first_fork (world_of r).reports))
 
@@ -53,7 +53,7 @@ abbrev pub rules : Rules Running
 rules = record {
   step = λ r bytes _. after_answer r (answer_in r bytes);
   overrun = λ r overrun. bad_line (r.reading.lines + 1) (beyond overrun);
-  closing = ending;
+  closing = told_at_end;
 }
 
 -- what is written about a schedule: the report, and what it says

@@ -11,7 +11,8 @@ use Rattle.xl_rounds.specs.declared.heartbeat.HeartbeatKind.{HeartbeatKind}
 use Rattle.xl_rounds.specs.declared.heartbeat.Heartbeat.{Heartbeat}
 use Rattle.xl_rounds.specs.Agreement.{consensus}
 use Rattle.xl_rounds.specs.Rounds.{Round}
-use Rattle.xl_rounds.specs.Heartbeats.{HeartbeatReply, quiet, is_ready, with_new_position, voted, decision, is_renewed, after_third, said_in_third, tally, outcome, kind_of, ready_after, established_by, established, establish_beat}
+use Rattle.xl_rounds.specs.Heartbeats.{HeartbeatReply, quiet_reply, is_ready, with_new_position, after_vote, decision, is_renewed, after_third, said_in_third, tally, outcome, kind_of, ready_after, established_by, establish_reply, establish_beat}
+use Rattle.xl_rounds.specs.Numbers.{least_ms}
 
 abbrev pub with_ready : Option ℕ → Round → Round
 with_ready ready r = record r { ready = ready }
@@ -47,19 +48,19 @@ module _ (d : Decision) (before after : Round) (is_new : Bool) (said : Option Sa
       ∙ ap (with_ready (ready_after (outcome (consensus (tally (after_third before second d) round_ms finished)) d.choice.agreed) round_ms)) lines.after_is
 
 -- the first two lines come before
-pub decided_first : (d : Decision) (before old : Round) (round_ms second finished : ℕ) → d ≡ decision old round_ms second → before ≡ voted old round_ms second →
-    established_by d round_ms second finished before ≡ established round_ms second finished old
+pub decided_first : (d : Decision) (before old : Round) (round_ms second finished : ℕ) → d ≡ decision old round_ms second → before ≡ after_vote old round_ms second →
+    established_by d round_ms second finished before ≡ establish_reply round_ms second finished old
 decided_first d before old round_ms second finished is_d is_before =
     ap (λ e. established_by e round_ms second finished before) is_d ∙ ap (established_by (decision old round_ms second) round_ms second finished) is_before
 
 -- a round that isn't young
-pub no_longer_young : (now finished round_ms second : ℕ) (r : Round) → round_ms ≡ now - r.stance.closed → 1950 ≤ round_ms → second ≡ now / 1000 →
-    established round_ms second finished r ≡ establish_beat now finished r
+pub no_longer_young : (now finished round_ms second : ℕ) (r : Round) → round_ms ≡ now - r.stance.closed → least_ms ≤ round_ms → second ≡ now / 1000 →
+    establish_reply round_ms second finished r ≡ establish_beat now finished r
 no_longer_young now finished round_ms second r is late is_second =
-    ap (λ ms. established ms second finished r) is
-    ∙ ap (λ s. established (now - r.stance.closed) s finished r) is_second
-    ∙ sym (cond-false (nat_lt (now - r.stance.closed) 1950) (quiet r) (established (now - r.stance.closed) (now / 1000) finished r)
-    (le-ltb (now - r.stance.closed) 1950 (omega (arith, is, late))))
+    ap (λ ms. establish_reply ms second finished r) is
+    ∙ ap (λ s. establish_reply (now - r.stance.closed) s finished r) is_second
+    ∙ sym (cond-false (nat_lt (now - r.stance.closed) least_ms) (quiet_reply r) (establish_reply (now - r.stance.closed) (now / 1000) finished r)
+    (le-ltb (now - r.stance.closed) least_ms (omega (arith, is, late))))
 
 -- ---- what holds after a heartbeat
 
@@ -68,7 +69,7 @@ pub record IsTold (r : Round) (b : HeartbeatReply) : Type 0 where
   pub ready : is_some b.round.ready ≡ is_ready b.answer.kind
   pub setting : b.round.setting ≡ r.setting
 
-quiet_told : (r : Round) → IsTold r (quiet r)
+quiet_told : (r : Round) → IsTold r (quiet_reply r)
 quiet_told r = record { ready = refl; setting = refl }
 
 concluded_ready : (r : Round) (round_ms : ℕ) (c : Consensus) (agreed is_new : Bool) (said : Option Said) →
@@ -94,5 +95,5 @@ pub establish_told : (now finished : ℕ) (r : Round) → IsTold r (establish_be
 establish_told now finished r =
     let ms : ℕ = now - r.stance.closed in
     let second : ℕ = now / 1000 in
-    let told = by_told (decision r ms second) ms second finished (voted r ms second) in
-    cond_both (nat_lt ms 1950) (quiet r) (established ms second finished r) (IsTold r) (λ _. quiet_told r) (λ _. record { ready = told.ready; setting = told.setting })
+    let told = by_told (decision r ms second) ms second finished (after_vote r ms second) in
+    cond_both (nat_lt ms least_ms) (quiet_reply r) (establish_reply ms second finished r) (IsTold r) (λ _. quiet_told r) (λ _. record { ready = told.ready; setting = told.setting })

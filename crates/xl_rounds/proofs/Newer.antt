@@ -12,6 +12,7 @@ use Rattle.xl_rounds.specs.Positions.{position_of, is_old}
 use Rattle.xl_rounds.specs.Rounds.{Round}
 use Rattle.xl_rounds.specs.Proposals.{is_past, is_ours, is_repeated, sequence_of, has_left, answer, with_answer}
 use Rattle.xl_rounds.specs.Laws.{PositionsAreNewer}
+use Rattle.xl_rounds.specs.Numbers.{leaving}
 
 -- what stands at a place that was written
 put_at : {X : Type 0} (xs : List (Option X)) (k : ℕ) (x y : X) → get_or xs k None ≡ Some x → get_or (set xs k (Some y)) k None ≡ Some y
@@ -40,7 +41,7 @@ by_answer (Ok Gone) ledgers member p now r kept next is had has = absurd (cc (sy
 by_answer (Ok Position) ledgers member p now r kept next is had has =
     let same : Some next ≡ Some p = sym has ∙ put_at r.positions.members (member - 1) kept p had in
     let new : is_repeated p.pseq (position_of r.positions member) ≡ false =
-    placed_if (not (is_ours r p) && is_past ledgers r.setting.previous p.prev) (not (is_ours r p)) (is_repeated p.pseq (position_of r.positions member)) (has_left r member) (is_old now p) (p.pseq == 4294967295)
+    placed_if (not (is_ours r p) && is_past ledgers r.setting.previous p.prev) (not (is_ours r p)) (is_repeated p.pseq (position_of r.positions member)) (has_left r member) (is_old now p) (p.pseq == leaving)
     (WrongPrev r.setting.previous_id) (OldPosition (sequence_of (position_of r.positions member))) (Left member) (StaleProposal now) is in
     let above : nat_le p.pseq kept.pseq ≡ false = sym (ap (is_repeated p.pseq) had) ∙ new in
     let is_next : next ≡ p = cc same in

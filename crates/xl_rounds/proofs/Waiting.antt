@@ -16,6 +16,7 @@ use Rattle.xl_rounds.specs.Settings.{setting_on}
 use Rattle.xl_rounds.specs.Rounds.{Round, on_ledger}
 use Rattle.xl_rounds.specs.Proposals.{is_past, is_ours, is_repeated, sequence_of, has_left, answer, with_answer, with_proposal, without_later, with_handed, later_of, with_all_handed}
 use Rattle.xl_rounds.specs.Laws.{Waits, NoneWaitsInVain}
+use Rattle.xl_rounds.specs.Numbers.{leaving}
 use Rattle.xl_rounds.proofs.StartLaws.{setting_handed}
 
 gone_at : {X : Type 0} (xs : List (Option X)) (k : ℕ) → get_or (set xs k None) k None ≡ None
@@ -41,7 +42,7 @@ none_left ledgers (Ok Position) member now p r is ours none = none
 none_left ledgers (Ok Gone) member now p r is ours none = none
 none_left ledgers (Err why) member now p r is ours none = none
 none_left ledgers (Ok Later) member now p r is ours none =
-    absurd (never_later (is_ours r p) (is_past ledgers r.setting.previous p.prev) (is_repeated p.pseq (position_of r.positions member)) (has_left r member) (is_old now p) (p.pseq == 4294967295)
+    absurd (never_later (is_ours r p) (is_past ledgers r.setting.previous p.prev) (is_repeated p.pseq (position_of r.positions member)) (has_left r member) (is_old now p) (p.pseq == leaving)
     (WrongPrev r.setting.previous_id) (OldPosition (sequence_of (position_of r.positions member))) (Left member) (StaleProposal now) ours is)
 
 none_waits : (ledgers : List Header) (s : Round) (member : ℕ) → later_of s member ≡ None → Waits ledgers s member

@@ -25,7 +25,7 @@ use Rattle.xl_rounds.specs.declared.heartbeat.Heartbeat.{Heartbeat}
 use Rattle.xl_rounds.specs.Numbers.{least_ms, least_former_ms, renewed_secs, last_sequence}
 use Rattle.xl_rounds.specs.Closing.{should_close}
 use Rattle.xl_rounds.specs.Agreement.{consensus}
-use Rattle.xl_rounds.specs.Positions.{Positions, with_own, without_old, count, next_set, close_times, agreeing}
+use Rattle.xl_rounds.specs.Positions.{Positions, with_own, without_old, count, next_set, close_times, count_agreeing}
 use Rattle.xl_rounds.specs.Rounds.{Round, is_proposing, our_position}
 
 abbrev pub is_ready : HeartbeatKind → Bool
@@ -40,8 +40,8 @@ pub record HeartbeatReply : Type 0 where
   pub answer : Heartbeat
 
 -- nothing happens
-abbrev pub quiet : Round → HeartbeatReply
-quiet r = record { round = record r { ready = None }; answer = record { kind = Nothing; said = None } }
+abbrev pub quiet_reply : Round → HeartbeatReply
+quiet_reply r = record { round = record r { ready = None }; answer = record { kind = Nothing; said = None } }
 
 -- if we propose, our position is sent, with our set before it or without
 abbrev pub said_of : Round → Bool → Option Said
@@ -50,8 +50,8 @@ said_of r with_set =
 
 -- ---- open
 
-abbrev pub waiting : Round → ℕ → ℕ → Waiting
-waiting r now validated = record {
+abbrev pub waiting_of : Round → ℕ → ℕ → Waiting
+waiting_of r now validated = record {
   previous_ms = r.former.round_ms;
   elapsed = now - r.setting.started;
   closed = count r.positions;
@@ -73,7 +73,7 @@ abbrev pub closed_beat : Round → HeartbeatReply
 closed_beat r = record { round = r; answer = record { kind = Closed; said = said_of r true } }
 
 abbrev pub open_beat : ℕ → ℕ → Round → HeartbeatReply
-open_beat now validated r = if should_close (waiting r now validated) then closed_beat (closed_at now r) else quiet r
+open_beat now validated r = if should_close (waiting_of r now validated) then closed_beat (closed_at now r) else quiet_reply r
 
 -- ---- establish
 
@@ -82,33 +82,33 @@ abbrev pub percent_of : Former → ℕ → ℕ
 percent_of former round_ms = round_ms * 100 / max former.round_ms least_former_ms
 
 -- the threshold of that percent
-abbrev pub needed : Round → ℕ → ℕ
-needed r round_ms = threshold (percent_of r.former round_ms)
+abbrev pub needed_votes : Round → ℕ → ℕ
+needed_votes r round_ms = threshold (percent_of r.former round_ms)
 
 -- whether two sets are the same
 abbrev pub is_same_set : List TxId → List TxId → Bool
 is_same_set a b = pointwise (λ (x y : TxId). bytes_eq x.0 y.0) a b
 
 -- the first line: old positions go
-abbrev pub kept : Round → ℕ → Positions
-kept r second = without_old second r.positions
+abbrev pub kept_positions : Round → ℕ → Positions
+kept_positions r second = without_old second r.positions
 
 -- the second line: the votes decide our next set, and the close times the choice among them
 abbrev pub next_own : Round → ℕ → ℕ → List TxId
-next_own r round_ms second = next_set (needed r round_ms) (is_proposing r.setting.mode) (kept r second)
+next_own r round_ms second = next_set (needed_votes r round_ms) (is_proposing r.setting.mode) (kept_positions r second)
 
-abbrev pub voted : Round → ℕ → ℕ → Round
-voted r round_ms second = record r { positions = with_own (next_own r round_ms second) (kept r second) }
+abbrev pub after_vote : Round → ℕ → ℕ → Round
+after_vote r round_ms second = record r { positions = with_own (next_own r round_ms second) (kept_positions r second) }
 
-abbrev pub chosen : Round → ℕ → ℕ → Choice
-chosen r round_ms second =
-    choose_close (close_times (kept r second)) r.stance.close (is_proposing r.setting.mode)
-    (needed r round_ms) r.setting.resolution
+abbrev pub chosen_close : Round → ℕ → ℕ → Choice
+chosen_close r round_ms second =
+    choose_close (close_times (kept_positions r second)) r.stance.close (is_proposing r.setting.mode)
+    (needed_votes r round_ms) r.setting.resolution
 
 abbrev pub decision : Round → ℕ → ℕ → Decision
 decision r round_ms second = record {
   changed = not (is_same_set (next_own r round_ms second) r.positions.own);
-  choice = chosen r round_ms second;
+  choice = chosen_close r round_ms second;
 }
 
 -- the third line: our position is renewed if our set or the close time changed, or once it has aged
@@ -117,8 +117,8 @@ is_renewed r second d =
     d.changed || not (d.choice.close == round_close r.stance.close r.setting.resolution)
     || nat_le r.stance.time (second - renewed_secs)
 
-abbrev pub renewed : ℕ → ℕ → Stance → Stance
-renewed close second s = record {
+abbrev pub renewed_stance : ℕ → ℕ → Stance → Stance
+renewed_stance close second s = record {
   closed = s.closed;
   propose_sequence = min (s.propose_sequence + 1) last_sequence;
   close = close;
@@ -126,7 +126,7 @@ renewed close second s = record {
 }
 
 abbrev pub with_new_position : ℕ → ℕ → Round → Round
-with_new_position close second r = record r { stance = renewed close second r.stance }
+with_new_position close second r = record r { stance = renewed_stance close second r.stance }
 
 abbrev pub after_third : Round → ℕ → Decision → Round
 after_third r second d = if is_renewed r second d then with_new_position d.choice.close second r else r
@@ -142,7 +142,7 @@ tally r round_ms finished = record {
   previous_ms = r.former.round_ms;
   positions = count r.positions;
   previous_proposers = r.former.proposers;
-  agree = agreeing r.positions + (if is_proposing r.setting.mode then 1 else 0);
+  agree = count_agreeing r.positions + (if is_proposing r.setting.mode then 1 else 0);
   total = count r.positions + (if is_proposing r.setting.mode then 1 else 0);
   finished = finished;
 }
@@ -165,32 +165,32 @@ abbrev pub ready_after : Option HeartbeatKind → ℕ → Option ℕ
 ready_after None round_ms = None
 ready_after (Some ready) round_ms = Some round_ms
 
-abbrev pub concluded : Round → ℕ → Option HeartbeatKind → Bool → Option Said → HeartbeatReply
-concluded r round_ms reached is_new said = record {
+abbrev pub concluding_reply : Round → ℕ → Option HeartbeatKind → Bool → Option Said → HeartbeatReply
+concluding_reply r round_ms reached is_new said = record {
   round = record r { ready = ready_after reached round_ms };
   answer = record { kind = kind_of reached is_new; said = said };
 }
 
 -- lines 3 to 5, once lines 1 and 2 have decided
 abbrev pub established_by : Decision → ℕ → ℕ → ℕ → Round → HeartbeatReply
-established_by d round_ms second finished r = concluded (after_third r second d) round_ms
+established_by d round_ms second finished r = concluding_reply (after_third r second d) round_ms
     (outcome (consensus (tally (after_third r second d) round_ms finished)) d.choice.agreed)
     (is_renewed r second d) (said_in_third r second d)
 
-abbrev pub established : ℕ → ℕ → ℕ → Round → HeartbeatReply
-established round_ms second finished r =
-    established_by (decision r round_ms second) round_ms second finished (voted r round_ms second)
+abbrev pub establish_reply : ℕ → ℕ → ℕ → Round → HeartbeatReply
+establish_reply round_ms second finished r =
+    established_by (decision r round_ms second) round_ms second finished (after_vote r round_ms second)
 
 abbrev pub establish_beat : ℕ → ℕ → Round → HeartbeatReply
 establish_beat now finished r =
-    if nat_lt (now - r.stance.closed) least_ms then quiet r else established (now - r.stance.closed) (now / 1000) finished r
+    if nat_lt (now - r.stance.closed) least_ms then quiet_reply r else establish_reply (now - r.stance.closed) (now / 1000) finished r
 
 -- ---- any
 
 abbrev pub beat_in : Phase → ℕ → Seen → Round → HeartbeatReply
 beat_in Open now seen r = open_beat now seen.validated r
 beat_in Establish now seen r = establish_beat now seen.finished r
-beat_in Accepted now seen r = quiet r
+beat_in Accepted now seen r = quiet_reply r
 
 abbrev pub heartbeat : ℕ → Seen → Round → HeartbeatReply
 heartbeat now seen r = beat_in r.phase now seen r

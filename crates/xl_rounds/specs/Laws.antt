@@ -6,9 +6,9 @@ use Rattle.xl_ledger.specs.declared.header.Header.{Header}
 use Rattle.xl_rounds.specs.declared.phase.Mode.{Mode}
 use Rattle.xl_rounds.specs.declared.heartbeat.Seen.{Seen}
 use Rattle.xl_rounds.specs.declared.heartbeat.HeartbeatKind.TheVariants.{Ready}
-use Rattle.xl_rounds.specs.Positions.{position_of, count, agreeing}
+use Rattle.xl_rounds.specs.Positions.{position_of, count, count_agreeing}
 use Rattle.xl_rounds.specs.Rounds.{Round, is_proposing}
-use Rattle.xl_rounds.specs.Proposals.{is_ours, is_past, with_proposal, later_of, started}
+use Rattle.xl_rounds.specs.Proposals.{is_ours, is_past, with_proposal, later_of, started_round}
 use Rattle.xl_rounds.specs.Heartbeats.{heartbeat}
 
 -- the positions, ours among them if we propose
@@ -17,7 +17,7 @@ voices r = count r.positions + (if is_proposing r.setting.mode then 1 else 0)
 
 -- those of them that name our set
 abbrev pub agreeing_voices : Round → ℕ
-agreeing_voices r = agreeing r.positions + (if is_proposing r.setting.mode then 1 else 0)
+agreeing_voices r = count_agreeing r.positions + (if is_proposing r.setting.mode then 1 else 0)
 
 -- nobody else has a position, or four fifths agree
 abbrev pub IsAgreed : Round → Type 0
@@ -44,4 +44,4 @@ Waits ledgers r member = (p : Proposal) → later_of r member ≡ Some p →
 abbrev pub NoneWaitsInVain : Type 0
 NoneWaitsInVain = (ledgers : List Header) (previous : ℕ) (mode : Mode) (now : ℕ) (r : Round) (member : ℕ) →
     1 ≤ member → member ≤ 64 →
-    Waits ledgers (started ledgers previous mode now r) member
+    Waits ledgers (started_round ledgers previous mode now r) member

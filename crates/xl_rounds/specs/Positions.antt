@@ -84,5 +84,5 @@ abbrev pub names : SetId → Option Proposal → Bool
 names id None = false
 names id (Some p) = bytes_eq p.set.0 id.0
 
-abbrev pub agreeing : Positions → ℕ
-agreeing a = count_by (names (set_id_of a.own)) a.members
+abbrev pub count_agreeing : Positions → ℕ
+count_agreeing a = count_by (names (set_id_of a.own)) a.members

@@ -100,6 +100,6 @@ with_all_handed ledgers (suc n) now r =
     let before = with_all_handed ledgers n now r in with_handed ledgers (suc n) (later_of before (suc n)) now before
 
 -- a round starts on a ledger, at a moment
-abbrev pub started : List Header → ℕ → Mode → ℕ → Round → Round
-started ledgers previous mode now r =
+abbrev pub started_round : List Header → ℕ → Mode → ℕ → Round → Round
+started_round ledgers previous mode now r =
     with_all_handed ledgers 64 (now / 1000) (on_ledger (setting_on ledgers previous mode now) r)

@@ -21,5 +21,5 @@ relisted_to members zero r = r
 relisted_to members (suc n) r = unless_listed members (suc n) (relisted_to members n r)
 
 -- a round of another list: of members that aren't on it nothing is known, and all else stays
-abbrev pub relisted : List ℕ → Round → Round
-relisted members r = relisted_to members 64 r
+abbrev pub relisted_round : List ℕ → Round → Round
+relisted_round members r = relisted_to members 64 r

@@ -47,8 +47,8 @@ abbrev pub no_stance : Stance
 no_stance = record { closed = 0; propose_sequence = 0; close = 0; time = 0 }
 
 -- a node's first round
-abbrev pub opened : List Header → ℕ → Mode → ℕ → Round
-opened ledgers root mode now = record {
+abbrev pub first_round : List Header → ℕ → Mode → ℕ → Round
+first_round ledgers root mode now = record {
   setting = setting_on ledgers root mode now;
   former = record { round_ms = first_former_ms; proposers = 0 };
   phase = Open;
@@ -105,8 +105,8 @@ abbrev pub agreed : Round → Agreed
 agreed r = record { set = set_id_of r.positions.own; close = r.stance.close; resolution = r.setting.resolution }
 
 -- the ledger is accepted that the round was ready for, after so long
-abbrev pub accepted : ℕ → Round → Round
-accepted round_ms r = record r {
+abbrev pub accepted_round : ℕ → Round → Round
+accepted_round round_ms r = record r {
   phase = Accepted;
   ready = None;
   former = record { round_ms = round_ms; proposers = count r.positions };

@@ -1,16 +1,18 @@
-ghost use Rattle.std.specs.Prelude.{◌≡◌, ◌<◌, ◌≤◌, ℕ, length, slice_index_or, slice_set, Some, None};
+ghost use Rattle.std.specs.Prelude.{◌≡◌, ◌<◌, ◌≤◌, ℕ, length, slice_index_or, slice_set, IfOk, Some, None};
 ghost use Rattle.std.specs.Int.{bit_at};
 ghost use Rattle.xl_rounds.specs.Positions.{nowhere};
 ghost use Rattle.xl_rounds.specs.Rest.{AreKept};
 
+use std::alloc::Global;
 use std::marker::Model;
-use xl_base::MOST_MEMBERS;
+use xl_base::{MOST_MEMBERS, OutOfMemory};
 use xl_wire::Proposal;
 
 /// At most one proposal of each member, from member 1 on. What is kept is found without a look at the other places.
 #[derive(Drop)]
 pub(crate) struct Kept {
-    proposals: [Option<Proposal>; MOST_MEMBERS],
+    /// Behind a pointer, since they are large.
+    proposals: Box<[Option<Proposal>; MOST_MEMBERS]>,
     /// A bit for each place, the lowest for the first: a proposal stands at marked places alone.
     marks: u64,
 }
@@ -22,9 +24,9 @@ impl Model for Kept {
 
     ghost Value = { List (Option Proposal) };
 
-    ghost view = { λ a. a.proposals };
+    ghost view = { λ a. a.proposals.value };
 
-    ghost invariant = { λ a. AreKept a.marks a.proposals };
+    ghost invariant = { λ a. AreKept a.marks a.proposals.value };
 }
 
 /// The first marked place from this one on, or the one behind the last.
@@ -57,13 +59,13 @@ fn remove_marked(proposals: &mut [Option<Proposal>; MOST_MEMBERS], marks: u64)
 }
 
 impl Kept {
-    pub(crate) fn none() -> Kept
-        ensures { result ≡ nowhere }
+    pub(crate) fn none(alloc: Global) -> Result<Kept, OutOfMemory>
+        ensures { IfOk result (λ kept. kept ≡ nowhere) }
     {
-        Kept {
-            proposals: [None; MOST_MEMBERS],
+        Ok(Kept {
+            proposals: Box::new(alloc, [None; MOST_MEMBERS])?,
             marks: 0,
-        }
+        })
     }
 
     /// No proposal is kept any more.

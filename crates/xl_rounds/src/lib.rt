@@ -28,7 +28,7 @@ mod round;
 mod setting;
 
 pub use heartbeat::{Agreed, Heartbeat, HeartbeatKind, Said, Seen};
-pub use laws::rounds;
+pub use laws::{law_of_constants, rounds};
 pub use phase::{Mode, Phase};
 pub use placed::Placed;
 pub use refusal::RoundRefusal;

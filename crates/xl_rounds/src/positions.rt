@@ -35,7 +35,7 @@ ghost use Rattle.xl_rounds.specs.Positions.{
   next_set,
   close_times as close_times_of,
   names as names_of,
-  agreeing as agreeing_of,
+  count_agreeing as agreeing_of,
   times_of,
 };
 ghost use Rattle.xl_rounds.specs.Rest.{is_old_position as is_old_position_of, one_if as one_if_of, without_old_at};
@@ -153,7 +153,7 @@ impl Positions {
         ensures { IfOk result (λ positions. positions ≡ no_positions []) }
     {
         Ok(Positions {
-            members: Kept::none(),
+            members: Kept::none(alloc)?,
             count: 0,
             disputes: Disputes::open(alloc)?,
         })

@@ -5,14 +5,14 @@ ghost use Rattle.xl_base.specs.Moments.{greatest_millis};
 ghost use Rattle.xl_closetime.specs.Resolutions.{IsResolution};
 ghost use Rattle.xl_rounds.specs.Pending.{submit_refusal};
 ghost use Rattle.xl_rounds.specs.Rounds.{
-  opened,
+  first_round,
   our_position as our_position_of,
   bow_out,
   leave as leave_of,
   hold as hold_of,
   with_pending,
   agreed as agreed_of,
-  accepted,
+  accepted_round,
   is_proposing as is_proposing_of,
 };
 
@@ -29,6 +29,7 @@ use xl_wire::Proposal;
 
 mod heartbeat;
 mod proposals;
+mod reading;
 mod relisting;
 
 /// What a node's first round remembers: there was none before it, and that one counts as so long.
@@ -105,7 +106,7 @@ impl Round {
         now: Millis,
     ) -> Result<Round, OutOfMemory>
         requires known { root < length registry.now.headers }
-        ensures { IfOk result (λ round. round ≡ opened registry.now.headers root mode now) }
+        ensures { IfOk result (λ round. round ≡ first_round registry.now.headers root mode now) }
     {
         Ok(Round {
             setting: setting_on(registry, root, mode, now),
@@ -115,7 +116,7 @@ impl Round {
             ready: None,
             positions: Positions::open(alloc)?,
             left: [false; MOST_MEMBERS],
-            later: Kept::none(),
+            later: Kept::none(alloc)?,
             pending: Pending::open(alloc)?,
         })
     }
@@ -124,7 +125,7 @@ impl Round {
     /// row by row, so that it costs little if little is.
     pub fn reopen(&mut self, registry: &Registry, root: LedgerNo, mode: Mode, now: Millis)
         requires known { root < length registry.now.headers }
-        ensures { self.new ≡ opened registry.now.headers root mode now }
+        ensures { self.new ≡ first_round registry.now.headers root mode now }
     {
         self.setting = setting_on(registry, root, mode, now);
         self.former = FIRST_FORMER;
@@ -245,7 +246,7 @@ impl Round {
     /// one.
     pub fn accept(&mut self)
         requires ready { IsSome self.old.ready }
-        ensures { IfSome self.old.ready (λ round_ms. self.new ≡ accepted round_ms self.old) }
+        ensures { IfSome self.old.ready (λ round_ms. self.new ≡ accepted_round round_ms self.old) }
     {
         let round_ms = self.ready.unwrap();
         self.phase = Phase::Accepted;

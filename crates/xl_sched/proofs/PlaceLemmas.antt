@@ -81,6 +81,21 @@ with_place-new None is_key place h = refl
 with_place-new (Some k) true place h = absurd (Some≢None k (h refl))
 with_place-new (Some k) false place h = refl
 
+None≢Some : (k : ℕ) → None ≡ Some k → ⊥
+None≢Some k e = cc
+
+-- a key that had a place gets it back
+pub with_place-again : (kept : Option ℕ) (is_key : Bool) (place first : ℕ) → (is_key ≡ true → kept ≡ Some first)
+    → cond is_key (Some first) (cond is_key (Some place) kept) ≡ with_place kept is_key place
+with_place-again None true place first h = absurd (None≢Some first (h refl))
+with_place-again None false place first h = refl
+with_place-again (Some k) true place first h = sym (h refl)
+with_place-again (Some k) false place first h = refl
+
+-- an id with the same bytes has the same place
+pub same_too : (place_of : List ℕ → Option ℕ) (t id : List ℕ) (kept : Option ℕ) → place_of id ≡ kept → bytes_eq t id ≡ true → place_of t ≡ kept
+same_too place_of t id kept h e = ap place_of ((bytes_eq-Decides t id).0 e) ∙ h
+
 -- a name with the same bytes has no place either
 pub none_too : (place_of : List ℕ → Option ℕ) (t name : List ℕ) → place_of name ≡ None → bytes_eq t name ≡ true → place_of t ≡ None
 none_too place_of t name h e = ap place_of ((bytes_eq-Decides t name).0 e) ∙ h

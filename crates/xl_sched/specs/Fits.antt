@@ -28,11 +28,8 @@ IsFitPair reading from to = (is_on reading.liars from ≡ true) × (is_on readin
 
 -- what a frame can say: the ids of a set rise, and are no more than a set's
 abbrev pub IsFitLied : Lied → Type 0
-IsFitLied (lied.Proposal proposal) = Unit {0}
-IsFitLied (lied.Validation validation) = Unit {0}
-IsFitLied (lied.Header name header) = Unit {0}
 IsFitLied (lied.TxSet ids) = IsSet ids
-IsFitLied (lied.Tx id) = Unit {0}
+IsFitLied other = Unit {0}
 
 -- what happens to declared nodes and liars, with sent frames, and with bytes of a frame's length
 abbrev pub IsFitWhat : Reading → ℕ → What → Type 0

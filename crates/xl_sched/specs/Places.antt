@@ -15,7 +15,7 @@ place_of_name places name = get_by (λ key. slice_cmp nat_cmp name key.items) pl
 
 -- the place that is kept for an id's bytes
 abbrev pub place_of_id : Places → List ℕ → Option ℕ
-place_of_id places id = get_by (slice_cmp nat_cmp id) places.by_id
+place_of_id places id = get_by (λ key. slice_cmp nat_cmp id key.0) places.by_id
 
 -- the places of the first declarations
 pub record AreFirst (places : Places) (names : List Named) : Type 0 where

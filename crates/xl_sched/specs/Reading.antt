@@ -59,21 +59,8 @@ naming reading named = record (counted reading) { names = reading.names ++ named
 
 -- how many lists what happens sets
 abbrev pub lists_in : What → ℕ
-lists_in (what.Ask ask) = 0
-lists_in (what.Submit node tx) = 0
-lists_in what.Timers = 0
-lists_in (what.Deliver place) = 0
-lists_in what.All = 0
-lists_in what.Drop = 0
-lists_in (what.Greet node peer) = 0
-lists_in (what.Restart node) = 0
-lists_in (what.Cut new ask) = 0
-lists_in (what.Fail new ask) = 0
 lists_in (what.List node list) = 1
-lists_in (what.Lie from to lie) = 0
-lists_in (what.Raw to bytes) = 0
-lists_in (what.Prefer node) = 0
-lists_in (what.Heard node) = 0
+lists_in other = 0
 
 -- what is known after a line
 abbrev pub after : Reading → Line → Reading

@@ -2,13 +2,14 @@ ghost use Rattle.std.specs.Prelude.{◌≡◌, List, ℕ, Some, None, true, fals
 
 use std::alloc::{AllocError, Global};
 use std::collections::BTreeMap;
-use xl_base::OutOfMemory;
+use xl_base::{LedgerId, OutOfMemory};
 
 /// If each name, and the first name of each id, stands in the order of declaration.
 #[derive(Drop)]
 pub struct Places {
     by_name: BTreeMap<Vec<u8>, usize>,
-    by_id: BTreeMap<[u8; 32], usize>,
+    /// Ids of sets and transactions too. Those of ledgers are compared eight bytes at a time.
+    by_id: BTreeMap<LedgerId, usize>,
 }
 
 impl Places {
@@ -34,7 +35,7 @@ impl Places {
     pub fn of_id(&self, id: &[u8; 32]) -> Option<usize>
         ensures { result ≡ place_of_id self.now id.now }
     {
-        self.by_id.get(id).copied()
+        self.by_id.get(&LedgerId(*id)).copied()
     }
 
     /// Keeps the place of a new name, and of its id unless that has one.
@@ -75,8 +76,9 @@ impl Places {
         ensures kept { OnErr result (HasSamePlaces self.old self.new) }
         ensures names { (other : List ℕ) → place_of_name self.new other ≡ place_of_name self.old other }
     {
-        if self.of_id(id).is_none() {
-            self.by_id.insert(*id, place)?;
+        // Most ids are new, so one search decides.
+        if let Some(first) = self.by_id.insert(LedgerId(*id), place)? {
+            self.by_id.insert(LedgerId(*id), first)?;
         }
         Ok(())
     }

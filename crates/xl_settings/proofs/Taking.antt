@@ -15,7 +15,7 @@ use Rattle.xl_publish.specs.Refusing.{refusal_of}
 use Rattle.xl_publish.specs.Registers.{Register, after_roll, after_took, answer_to, kept_of, took_of}
 use Rattle.xl_settings.specs.declared.publishers.PublisherKey.{PublisherKey}
 use Rattle.xl_settings.specs.declared.taken.Taken.{Taken}
-use Rattle.xl_settings.specs.Publishers.{after_rolls, is_taken, keyed, registered}
+use Rattle.xl_settings.specs.Publishers.{after_rolls, is_taken, keyed, register_after}
 
 -- ---- a roll leaves the keys
 
@@ -36,7 +36,7 @@ rolls_keys (roll ∷ rolls) r = rolls_keys rolls (after_roll r roll) ∙ roll_ke
 -- ---- so many rolls were taken, and none, or one, was refused
 
 pub record AreTaken (keys : List PublisherKey) (rolls : List (List ℕ)) (i : ℕ) (r : Register) (all : Bool) : Type 0 where
-  pub register : r ≡ registered keys (take i rolls)
+  pub register : r ≡ register_after keys (take i rolls)
   pub all_of : all ≡ list_all (is_taken (keyed keys)) (take i rolls)
 
 right_if : (refusal : Option RollRefusal) (took : Took) (answer : Result Took RollRefusal)
@@ -105,5 +105,5 @@ pub all_taken : (keys : List PublisherKey) (rolls : List (List ℕ)) (i : ℕ) (
     → length rolls ≤ i → AreTaken keys rolls i r all
     → taken_as r all ≡ after_rolls keys rolls
 all_taken keys rolls i r all past taken =
-    ap₂ taken_as (taken.register ∙ ap (registered keys) (take_all i rolls past))
+    ap₂ taken_as (taken.register ∙ ap (register_after keys) (take_all i rolls past))
     (taken.all_of ∙ ap (list_all (is_taken (keyed keys))) (take_all i rolls past))

@@ -4,6 +4,7 @@ pub mod First
 pub mod Values
 pub mod Different
 pub mod Submits
+pub mod Paths
 pub mod Peers
 pub mod Publishers
 pub mod Lists

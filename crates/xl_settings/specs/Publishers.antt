@@ -91,8 +91,8 @@ abbrev pub keyed : List PublisherKey → Register
 keyed publishers = fold with_publisher no_publishers publishers
 
 -- what they have after these rolls
-abbrev pub registered : List PublisherKey → List (List ℕ) → Register
-registered publishers rolls = fold after_roll (keyed publishers) rolls
+abbrev pub register_after : List PublisherKey → List (List ℕ) → Register
+register_after publishers rolls = fold after_roll (keyed publishers) rolls
 
 -- a roll isn't refused
 abbrev pub is_taken : Register → List ℕ → Bool
@@ -100,7 +100,7 @@ is_taken register roll = is_none (refusal_of register.keys roll)
 
 abbrev pub after_rolls : List PublisherKey → List (List ℕ) → Taken
 after_rolls publishers rolls = record {
-  publishers = registered publishers rolls;
+  publishers = register_after publishers rolls;
   all = list_all (is_taken (keyed publishers)) rolls;
 }
 

@@ -19,6 +19,7 @@ pub enum KeyName {
     Threshold,
     Roll,
     Journal,
+    Status,
 }
 
 impl KeyName {
@@ -42,6 +43,7 @@ impl KeyName {
             KeyName::Threshold => "threshold",
             KeyName::Roll => "roll",
             KeyName::Journal => "journal",
+            KeyName::Status => "status",
         }
     }
 }
@@ -66,6 +68,7 @@ pub(crate) fn is_known(text: &str) -> bool
         KeyName::Threshold,
         KeyName::Roll,
         KeyName::Journal,
+        KeyName::Status,
     ];
     all.iter().any(|name| text == name.text())
 }

@@ -1,5 +1,5 @@
 //! The settings of a node, read from a TOML document: who it is, whom it trusts, its limits, what it submits, its peers,
-//! and the publishers that may make its list.
+//! the publishers that may make its list, and where it tells how it is.
 //!
 //! It stands on xl_base, xl_io, xl_ledger, xl_lists, xl_links, xl_publish, and the kit's `toml` and `hex`. Its one
 //! contract: `read_settings` and `settings_from` answer the settings that the bytes hold at the moment of the opening,
@@ -14,6 +14,7 @@ mod key_name;
 mod limits;
 mod line;
 mod members;
+mod path;
 mod peering;
 mod peers;
 mod publishers;
@@ -37,6 +38,7 @@ pub use limits::{
     USUAL_HEARTBEAT_MS, USUAL_LIMIT, USUAL_TURNS,
 };
 pub use line::write_refusal;
+pub use path::FilePath;
 pub use peers::{Peer, Peers};
 pub use refusal::SettingsRefusal;
 pub use settings::Settings;

@@ -1,4 +1,4 @@
-use crate::Peers;
+use crate::{FilePath, Peers};
 use xl_base::{Millis, NodeNo, TxIds};
 use xl_lists::List;
 use xl_publish::Publishing;
@@ -30,4 +30,6 @@ pub struct Settings {
     pub publishing: Option<Publishing>,
     /// Whether its journal is written once it has run.
     pub journal: bool,
+    /// Where its status is told, if it is.
+    pub status: Option<FilePath>,
 }

@@ -8,6 +8,7 @@ ghost use Rattle.xl_settings.specs.Settings.{in_table, me_at, validating_at, lim
 ghost use Rattle.xl_settings.specs.Values.{at, whole, or_default};
 
 use crate::members::{members_at, stated_at};
+use crate::path::status_at;
 use crate::peering::peers_at;
 use crate::publishers::publishers_at;
 use crate::rolls::rolls_at;
@@ -46,6 +47,7 @@ pub fn settings_in(alloc: Global, table: &Table, now: Millis) -> Result<Settings
     rolls.ok_or(KeyName::Roll)?;
     let trust = trust_of(stated, taken, threshold, now).ok_or(KeyName::Roll)?;
     let journal = journal_at(table).ok_or(KeyName::Journal)?;
+    let status = status_at(alloc, table)?.ok_or(KeyName::Status)?;
     Ok(Settings {
         me,
         list: trust.list,
@@ -59,6 +61,7 @@ pub fn settings_in(alloc: Global, table: &Table, now: Millis) -> Result<Settings
         speak,
         publishing: trust.publishing,
         journal,
+        status,
     })
 }
 

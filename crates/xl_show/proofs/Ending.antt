@@ -7,7 +7,7 @@ use Rattle.xl_wire.specs.declared.decoding.Decoded.{Decoded}
 use Rattle.xl_wire.specs.declared.decoding.Decoded.TheVariants.{Whole, Need, Refused}
 use Rattle.xl_wire.specs.Codes.{code_of}
 use Rattle.xl_wire.specs.Frames.{decoded_of}
-use Rattle.xl_show.specs.Shown.{ending, told_by, told_frames, told_from}
+use Rattle.xl_show.specs.Shown.{told_at_end, told_by, told_frames, told_from}
 use Rattle.xl_show.specs.Texts.{space, newline, body_text, frame_line, values_text, bad_line, short_line, limit_line, count_line}
 
 -- a text that ends with a newline is not empty
@@ -25,7 +25,7 @@ record IsPlain (told : Told) : Type 0 where
 limit_plain : IsPlain (refused limit_line)
 limit_plain = record { some = bad_some _ _ _; never = λ e. cc }
 
-ending_plain : (beyond : Bool) (place count lack : ℕ) (bytes : List ℕ) → IsPlain (ending beyond place count lack bytes)
+ending_plain : (beyond : Bool) (place count lack : ℕ) (bytes : List ℕ) → IsPlain (told_at_end beyond place count lack bytes)
 ending_plain beyond place count lack bytes =
     cond_both beyond (refused limit_line) _ IsPlain
     (λ _. limit_plain)

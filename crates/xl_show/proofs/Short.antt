@@ -12,12 +12,13 @@ use Rattle.xl_wire.specs.Heads.Split.{Need}
 use Rattle.xl_wire.specs.Kinds.{can_have, can_have_first, is_kind, is_version}
 use Rattle.xl_wire.specs.Raws.{RawFrame}
 use Rattle.xl_wire.proofs.RawLaws.{by_version}
+use Rattle.xl_wire.specs.declared.lengths.TheConstants.{AROUND}
 use Rattle.xl_show.proofs.Extending.{lack_some, split_need}
 
-body_fits : (version kind n : ℕ) → can_have version kind n ≡ true → 46 + n ≤ longest_frame
-body_fits = by_version (λ version kind n. 46 + n ≤ longest_frame) first (omega arith)
+body_fits : (version kind n : ℕ) → can_have version kind n ≡ true → AROUND + n ≤ longest_frame
+body_fits = by_version (λ version kind n. AROUND + n ≤ longest_frame) first (omega arith)
   where
-    first : (kind n : ℕ) → can_have_first kind n ≡ true → 46 + n ≤ longest_frame
+    first : (kind n : ℕ) → can_have_first kind n ≡ true → AROUND + n ≤ longest_frame
     first kind n h = grind (arith, nat_tests)
 
 last_none : (a b c d e : Option WireRefusal) → first_of (a ∷ b ∷ c ∷ d ∷ e ∷ []) ≡ None → e ≡ None
@@ -57,10 +58,10 @@ need_fits xs n is =
   where
     by_length : (short : Bool) → nat_lt (length xs) 6 ≡ short → 0 < n → (head_refusal xs ≡ None) × (lacking xs ≡ n) → length xs + n ≤ longest_frame
     by_length true at some both =
-        let lack : 6 - length xs ≡ n = sym (ap (λ (b : Bool). if b then 6 - length xs else 46 + length_in xs - length xs) at) ∙ both.1 in
+        let lack : 6 - length xs ≡ n = sym (ap (λ (b : Bool). if b then 6 - length xs else AROUND + length_in xs - length xs) at) ∙ both.1 in
         grind (arith, nat_tests, at, lack)
     by_length false at some both =
-        let lack : 46 + length_in xs - length xs ≡ n = sym (ap (λ (b : Bool). if b then 6 - length xs else 46 + length_in xs - length xs) at) ∙ both.1 in
+        let lack : AROUND + length_in xs - length xs ≡ n = sym (ap (λ (b : Bool). if b then 6 - length xs else AROUND + length_in xs - length xs) at) ∙ both.1 in
         let long : nat_lt 5 (length xs) ≡ true = grind (arith, nat_tests, at) in
         let body = body_fits (version_in xs) (kind_in xs) (length_in xs) (lawful xs long both.0) in
         omega (arith, some, lack, body)

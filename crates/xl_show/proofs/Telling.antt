@@ -12,7 +12,7 @@ use Rattle.xl_wire.specs.declared.refusal.WireRefusal.{WireRefusal}
 use Rattle.xl_wire.specs.Frames.{decoded_of}
 use Rattle.xl_show.specs.Limits.{most_bytes}
 use Rattle.xl_show.proofs.Extending.{frame_some}
-use Rattle.xl_show.specs.Shown.{ending, told_by, told_frames, told_from}
+use Rattle.xl_show.specs.Shown.{told_at_end, told_by, told_frames, told_from}
 use Rattle.xl_show.specs.Texts.{frame_line, refusal_line, limit_line}
 
 same_by : (next next' : ℕ → Told) (beyond : Bool) (place count : ℕ) (bytes : List ℕ) (d : Decoded) → ((f : Frame) (n : ℕ) → d ≡ Whole f n → next n ≡ next' n) → told_by next beyond place count bytes d ≡ told_by next' beyond place count bytes d
@@ -83,13 +83,13 @@ module _ (place count : ℕ) (xs : List ℕ) (within : place + length xs ≤ mos
   told_refusal refusal is rest = told_once place count (xs ++ rest) (Refused refusal) (ap decoded_of (front_of place xs rest within) ∙ is (take (most_bytes - place - length xs) rest))
 
   -- the end
-  pub told_end : (lack : ℕ) → decoded_of xs ≡ Need lack → told_from place count (xs ++ []) ≡ ending false place count lack xs
+  pub told_end : (lack : ℕ) → decoded_of xs ≡ Need lack → told_from place count (xs ++ []) ≡ told_at_end false place count lack xs
   unfolding told_by
   told_end lack is =
       let all : front place (xs ++ []) ≡ xs = ap (front place) (append-nil xs) ∙ take_all (most_bytes - place) xs (omega (arith, within)) in
       let none : beyond place (xs ++ []) ≡ false = le-ltb most_bytes (place + length (xs ++ [])) (omega (arith, within, length-append {A = ℕ} xs [])) in
       told_once place count (xs ++ []) (Need lack) (ap decoded_of all ∙ is)
-      ∙ ap₂ (λ (b : Bool) (bytes : List ℕ). ending b place count lack bytes) none all
+      ∙ ap₂ (λ (b : Bool) (bytes : List ℕ). told_at_end b place count lack bytes) none all
 
   -- a byte too many
   pub told_limit : (lack : ℕ) → decoded_of xs ≡ Need lack → place + length xs ≡ most_bytes → (rest : List ℕ) → 0 < length rest → told_from place count (xs ++ rest) ≡ refused limit_line
@@ -100,4 +100,4 @@ module _ (place count : ℕ) (xs : List ℕ) (within : place + length xs ≤ mos
       let all : front place (xs ++ rest) ≡ xs = front_of place xs rest within ∙ ap (λ (ys : List ℕ). xs ++ ys) none ∙ append-nil xs in
       let more : beyond place (xs ++ rest) ≡ true = lt-ltb most_bytes (place + length (xs ++ rest)) (omega (arith, full, some, length-append xs rest)) in
       told_once place count (xs ++ rest) (Need lack) (ap decoded_of all ∙ is)
-      ∙ ap (λ (b : Bool). ending b place count lack (front place (xs ++ rest))) more
+      ∙ ap (λ (b : Bool). told_at_end b place count lack (front place (xs ++ rest))) more

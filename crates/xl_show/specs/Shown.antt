@@ -10,8 +10,8 @@ use Rattle.xl_show.specs.Limits.{most_bytes}
 use Rattle.xl_show.specs.Texts.{frame_line, refusal_line, short_line, limit_line, count_line}
 
 -- behind the last whole frame: more bytes come than may, or none is left, or this many lack
-abbrev pub ending : Bool → ℕ → ℕ → ℕ → List ℕ → Told
-ending beyond place count lack bytes =
+abbrev pub told_at_end : Bool → ℕ → ℕ → ℕ → List ℕ → Told
+told_at_end beyond place count lack bytes =
     if beyond then refused limit_line
     else if length bytes == 0 then closes (count_line count) Good
     else closes (short_line place lack) IsRefused
@@ -20,11 +20,11 @@ ending beyond place count lack bytes =
 unfoldable pub told_by : (ℕ → Told) → Bool → ℕ → ℕ → List ℕ → Decoded → Told
 told_by next beyond place count bytes (Whole frame n) = after (frame_line frame) (next n)
 told_by next beyond place count bytes (Refused refusal) = refused (refusal_line place refusal)
-told_by next beyond place count bytes (Need lack) = ending beyond place count lack bytes
+told_by next beyond place count bytes (Need lack) = told_at_end beyond place count lack bytes
 
 -- frame after frame, at most this many
 unfoldable pub told_frames : ℕ → Bool → ℕ → ℕ → List ℕ → Told
-told_frames zero beyond place count bytes = ending beyond place count 0 bytes
+told_frames zero beyond place count bytes = told_at_end beyond place count 0 bytes
 told_frames (suc most) beyond place count bytes =
     told_by (λ n. told_frames most beyond (place + n) (count + 1) (drop n bytes)) beyond place count bytes
     (decoded_of bytes)

@@ -5,7 +5,7 @@ ghost use Rattle.xl_lines.specs.Causes.{HasCause};
 ghost use Rattle.xl_lines.specs.Rules.{closes};
 ghost use Rattle.xl_lines.specs.Running.{Tells, TellsAll};
 ghost use Rattle.xl_show.specs.Reading.{left_after};
-ghost use Rattle.xl_show.specs.Shown.{ending, told_from, shown_of};
+ghost use Rattle.xl_show.specs.Shown.{told_at_end, told_from, shown_of};
 ghost use Rattle.xl_show.specs.Soon.{shown_soon, soon_from};
 ghost use Rattle.xl_show.specs.Texts.{limit_line};
 ghost use Rattle.xl_show.specs.Limits.{most_bytes};
@@ -114,11 +114,11 @@ impl Frames {
     /// Writes the last text of a whole input, of whose last frame this many bytes lack.
     fn end<O: Sink>(&mut self, output: &mut O, lack: usize) -> Result<Verdict, Fault>
         ensures all { IfOk result (λ verdict. TellsAll (O.held output.old) (O.held output.new) verdict
-            (ending false self.old.place self.old.count lack self.old.begun.items)) }
+            (told_at_end false self.old.place self.old.count lack self.old.begun.items)) }
         ensures front { GrewByFront (O.held output.old) (O.held output.new)
-            (ending false self.old.place self.old.count lack self.old.begun.items).text }
+            (told_at_end false self.old.place self.old.count lack self.old.begun.items).text }
         ensures less { IsErrOf result Fault.Write → GrewByLess (O.held output.old) (O.held output.new)
-            (ending false self.old.place self.old.count lack self.old.begun.items).text }
+            (told_at_end false self.old.place self.old.count lack self.old.begun.items).text }
         ensures cause { HasCause (O.faults output.old) (O.faults output.new) result }
     {
         self.text.clear();
@@ -131,7 +131,7 @@ impl Frames {
     fn push_end(&mut self, lack: usize) -> Result<Verdict, OutOfMemory>
         requires { string_bytes self.old.text ≡ [] }
         ensures { IfOk result (λ verdict. closes (string_bytes self.new.text) verdict
-            ≡ ending false self.old.place self.old.count lack self.old.begun.items) }
+            ≡ told_at_end false self.old.place self.old.count lack self.old.begun.items) }
     {
         if self.begun.is_empty() {
             push_count(&mut self.text, self.count)?;

@@ -6,7 +6,7 @@ use Rattle.xl_store.specs.Entries.{reply_of}
 use Rattle.xl_audit.specs.Rights.{is_right}
 use Rattle.xl_audit.specs.declared.judging.Stage.TheVariants.{Judging}
 use Rattle.xl_audit.specs.declared.written.Written.{Written}
-use Rattle.xl_shown.specs.Courses.{CourseStep, passes, shows, told_at}
+use Rattle.xl_shown.specs.Courses.{passes, shows, told_at}
 use Rattle.xl_shown.specs.Showing.{shown_if_right, shown_of}
 use Rattle.xl_shown.specs.declared.course.Course.TheVariants.{Goes, Failed}
 use Rattle.xl_shown.specs.declared.shown.Shown.{Shown}
@@ -24,9 +24,9 @@ told_right core entries w now o shown some is after =
         → shows (Goes (Judging now (entries + 1))) (entries + 1) shown ≡ shows (Goes (Judging k (entries + 1))) (entries + 1) s
     moved k s e d = rw (e, d) refl
 
-    by : (b : Bool) → Some shown ≡ (if b then Some (shown_of core w.entry) else None) → now ≡ (reply_of core w.entry).core
+    by : (b : Bool) → Some shown ≡ (if b then Some (shown_of core w) else None) → now ≡ (reply_of core w.entry).core
         → shows (Goes (Judging now (entries + 1))) (entries + 1) shown
-        ≡ (if b then shows (Goes (Judging (reply_of core w.entry).core (entries + 1))) (entries + 1) (shown_of core w.entry)
+        ≡ (if b then shows (Goes (Judging (reply_of core w.entry).core (entries + 1))) (entries + 1) (shown_of core w)
         else passes (Failed core.node.keys (entries + 1)))
-    by true got e = moved (reply_of core w.entry).core (shown_of core w.entry) e (same_some shown (shown_of core w.entry) got)
+    by true got e = moved (reply_of core w.entry).core (shown_of core w) e (same_some shown (shown_of core w) got)
     by false got e = absurd cc

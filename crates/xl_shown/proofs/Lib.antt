@@ -1,2 +1,4 @@
 pub mod Showing
+pub mod Answering
+pub mod Sealed
 pub mod Courses

@@ -1,36 +1,24 @@
 -- What an entry shows, by the core's step.
-use Rattle.std.proofs.Common.{◌≡◌, ℕ, Bool, true, false, List, ◌++◌, refl, sym, ap, ◌∙◌, arith, Result, Ok, Err, Option, Some, None}
-use Rattle.std.specs.Prelude.{◌==◌, ◌&&◌, ◌||◌, not, nat_lt, IfSome, option_map, option_to_list}
-use Rattle.std.proofs.lemmas.Bool.{cond-true, cond-false, and_parts, eqb-true}
+use Rattle.std.proofs.Common.{◌≡◌, ℕ, Bool, true, false, refl, ap, ◌∙◌, arith, Option, Some, None}
+use Rattle.std.specs.Prelude.{◌==◌, ◌&&◌, ◌||◌, not, nat_lt, IfSome}
+use Rattle.std.proofs.lemmas.Bool.{cond-true, cond-false, eqb-true}
 use Rattle.xl_base.specs.Ids.{same_id}
 use Rattle.xl_lists.proofs.Agreement.{same_id_itself}
 use Rattle.xl_core.specs.Answers.{Answer}
-use Rattle.xl_core.specs.Answers as answer
 use Rattle.xl_core.specs.Core.{Core}
-use Rattle.xl_core.specs.Hearing.{spoken_in}
-use Rattle.xl_core.specs.Lasts.{is_news, later}
+use Rattle.xl_core.specs.Lasts.{is_news, last_after}
 use Rattle.xl_core.specs.Lives.{sets_list}
 use Rattle.xl_core.specs.Node as nodes
-use Rattle.xl_core.specs.Node.{Node, at_moment, happens}
-use Rattle.xl_core.specs.declared.deed.Deed.TheVariants as deed
+use Rattle.xl_core.specs.Node.{Node, happens}
 use Rattle.xl_core.specs.declared.event.CoreEvent.{CoreEvent}
 use Rattle.xl_core.specs.declared.event.CoreEvent.TheVariants.{Issue, Frame, Timer, Submit, Relist, Greet, Drain, Reports, Stop, Stopped}
-use Rattle.xl_core.specs.declared.hearing.Spoken.{Spoken}
 use Rattle.xl_core.specs.declared.last.LastReport.{LastReport}
-use Rattle.xl_core.specs.declared.refusal.Refusal.{Refusal}
 use Rattle.xl_core.specs.declared.report.Report.{Report}
 use Rattle.xl_core.proofs.Reporting.{happens_reports}
-use Rattle.xl_core.proofs.Timing.{submit_either, relist_either}
-use Rattle.xl_store.specs.declared.entry.Entry.{Entry}
 use Rattle.xl_store.specs.declared.entry.Saved.{Saved}
 use Rattle.xl_store.specs.Entries.{entry_of, reply_of, save_of}
 use Rattle.xl_audit.specs.Leading.{IsDeed}
-use Rattle.xl_world.specs.Seen.{said_in}
-use Rattle.xl_world.specs.World.{said_by}
-use Rattle.xl_world.proofs.Doing.{frame_quiet, said_so}
-use Rattle.xl_evidence.specs.Evidence.{heard_by, shown_in}
-use Rattle.xl_evidence.specs.Evidence as evidence
-use Rattle.xl_shown.specs.Showing.{heard_in, heard_so, issued_in, same_report, arisen_between, said_heard, ShowsEvidence}
+use Rattle.xl_shown.specs.Showing.{issued_in, same_report, arisen_between}
 
 -- THE REPORT THAT ARISES
 
@@ -73,7 +61,7 @@ news_differs last r = by last.report
 abbrev barred : LastReport → Bool → LastReport
 barred last sets = record { report = last.report; relisted = last.relisted || sets }
 
-arisen_by : (last now : LastReport) (sets : Bool) (report : Option Report) → now ≡ later (barred last sets) report
+arisen_by : (last now : LastReport) (sets : Bool) (report : Option Report) → now ≡ last_after (barred last sets) report
     → IfSome report (λ r. is_news (barred last sets) r.seq r.id ≡ true) → arisen_between last.report now.report ≡ report
 arisen_by last now sets None is news =
     ap (λ (l : LastReport). arisen_between last.report l.report) is ∙ none_between last.report
@@ -103,68 +91,16 @@ arisen_is core Stopped outcome = none_between core.node.last.report
 
 -- THE VALIDATION THAT IS ISSUED
 
-issue_same : (me now seq : ℕ) (id : _) (full : Bool) (a : Answer)
-    → issued_in me (Issue now seq id full) a ≡ said_in me (deed.Issue now seq id full) a
-issue_same me now seq id full answer.Done = refl
-issue_same me now seq id full (answer.Refused why) = refl
-issue_same me now seq id full (answer.Took taken) = refl
-issue_same me now seq id full (answer.Beats beat) = refl
-issue_same me now seq id full (answer.Gave to frames) = refl
-issue_same me now seq id full (answer.Handed reports) = refl
-issue_same me now seq id full (answer.Told stopped) = refl
-
-timer_same : (me now : ℕ) (a : Answer) → issued_in me (Timer now) a ≡ said_in me (deed.Timer now) a
-timer_same me now answer.Done = refl
-timer_same me now (answer.Refused why) = refl
-timer_same me now (answer.Took taken) = refl
-timer_same me now (answer.Beats beat) = refl
-timer_same me now (answer.Gave to frames) = refl
-timer_same me now (answer.Handed reports) = refl
-timer_same me now (answer.Told stopped) = refl
-
-pub issued_is : (core : Core) (event : CoreEvent) (outcome : Option Saved) (told : Answer)
-    → (IsDeed event → told ≡ (reply_of core (entry_of event outcome)).answer)
-    → issued_in core.node.me event told ≡ option_map (said_by core.node.me) (reply_of core (entry_of event outcome)).issued
-issued_is core (Issue now seq id full) outcome told is =
-    let me : ℕ = core.node.me in
-    ap (issued_in me (Issue now seq id full)) (is tt)
-    ∙ (issue_same me now seq id full (reply_of core (entry_of (Issue now seq id full) outcome)).answer
-    ∙ said_so core 0 (deed.Issue now seq id full) (save_of outcome))
-issued_is core (Timer now) outcome told is =
-    let me : ℕ = core.node.me in
-    ap (issued_in me (Timer now)) (is tt)
-    ∙ (timer_same me now (reply_of core (entry_of (Timer now) outcome)).answer
-    ∙ said_so core 0 (deed.Timer now) (save_of outcome))
-issued_is core (Frame now bytes) outcome told is =
-    ap (option_map (said_by core.node.me)) (sym (frame_quiet core.node now bytes))
-issued_is core (Submit now tx) outcome told is =
-    submit_either (λ r. None ≡ option_map (said_by core.node.me) r.issued) (at_moment now core.node) tx (λ _. refl) refl
-issued_is core (Relist now list) outcome told is =
-    relist_either (λ r. None ≡ option_map (said_by core.node.me) r.issued) (at_moment now core.node) list (λ _. refl) (λ _. refl)
-issued_is core (Greet member) outcome told is = refl
-issued_is core (Drain member room) outcome told is = refl
-issued_is core (Reports room) outcome told is = refl
-issued_is core Stop outcome told is = refl
-issued_is core Stopped outcome told is = refl
-
--- THE LAW OF EVIDENCE
-
-heard_same : (r : Result Spoken Refusal) → said_heard (heard_so r) ≡ option_to_list (evidence.said_so r)
-heard_same (Ok said) = refl
-heard_same (Err why) = refl
-
-hears_same : (core : Core) (event : CoreEvent) → said_heard (heard_in core event) ≡ option_to_list (heard_by core event)
-hears_same core (Frame now bytes) = heard_same (spoken_in core.node.keys core.node.list.members bytes)
-hears_same core (Issue now seq id full) = refl
-hears_same core (Timer now) = refl
-hears_same core (Submit now tx) = refl
-hears_same core (Relist now list) = refl
-hears_same core (Greet member) = refl
-hears_same core (Drain member room) = refl
-hears_same core (Reports room) = refl
-hears_same core Stop = refl
-hears_same core Stopped = refl
-
-pub shows_evidence : ShowsEvidence
-shows_evidence core e =
-    ap (λ xs. xs ++ option_to_list (option_map (said_by core.node.me) (reply_of core e).issued)) (hears_same core e.event)
+-- it is told by what the core's step answers
+pub issued_is : (me : ℕ) (event : CoreEvent) (told said : Answer) → (IsDeed event → told ≡ said)
+    → issued_in me event told ≡ issued_in me event said
+issued_is me (Issue now seq id full) told said is = ap (issued_in me (Issue now seq id full)) (is tt)
+issued_is me (Timer now) told said is = ap (issued_in me (Timer now)) (is tt)
+issued_is me (Frame now bytes) told said is = refl
+issued_is me (Submit now tx) told said is = refl
+issued_is me (Relist now list) told said is = refl
+issued_is me (Greet member) told said is = refl
+issued_is me (Drain member room) told said is = refl
+issued_is me (Reports room) told said is = refl
+issued_is me Stop told said is = refl
+issued_is me Stopped told said is = refl

@@ -1,11 +1,10 @@
 -- How a written journal goes, line by line, up to the first entry that isn't right. Source: this project's own formats.
-use Rattle.std.specs.Prelude.{◌≡◌, ℕ, ◌+◌, Bool, true, false, List, [], Result, Ok, Err, if◌then◌else◌}
+use Rattle.std.specs.Prelude.{ℕ, ◌+◌, Bool, true, false, List, [], Result, Ok, Err, if◌then◌else◌}
 use Rattle.std.specs.Prelude.{Some, None}
 use Rattle.std.specs.declared.option.Option.{Option}
 use Rattle.std.specs.Coded.{Unit-prop}
 use Rattle.xl_lists.specs.Lists.{TrustedList}
 use Rattle.xl_tags.specs.Rings.{Ring}
-use Rattle.xl_core.specs.Core.{Core}
 use Rattle.xl_store.specs.Entries.{reply_of}
 use Rattle.xl_sched.specs.declared.refusal.SchedRefusal.TheVariants.{Header}
 use Rattle.xl_audit.specs.Auditing.{Step, goes_on, wrong, ended}
@@ -40,19 +39,19 @@ pub data CourseStep : Type 0 where
 abbrev pub told_at : Stage → Written → CourseStep
 told_at (Judging core entries) w =
     if is_right core w
-    then shows (Goes (Judging (reply_of core w.entry).core (entries + 1))) (entries + 1) (shown_of core w.entry)
+    then shows (Goes (Judging (reply_of core w.entry).core (entries + 1))) (entries + 1) (shown_of core w)
     else passes (Failed core.node.keys (entries + 1))
 told_at other w = passes (Goes other)
 
-abbrev pub led : Lead → CourseStep
-led (leads (goes_on stage)) = passes (Goes stage)
-led (leads (wrong place)) = passes (Goes Heading)
-led (leads (step.refuses why)) = refuses why
-led (tells stage w) = told_at stage w
+abbrev pub step_of_lead : Lead → CourseStep
+step_of_lead (leads (goes_on stage)) = passes (Goes stage)
+step_of_lead (leads (wrong place)) = passes (Goes Heading)
+step_of_lead (leads (step.refuses why)) = refuses why
+step_of_lead (tells stage w) = told_at stage w
 
 -- what the next line comes to
 abbrev pub course_step : Course → List ℕ → CourseStep
-course_step (Goes stage) line = led (lead stage line)
+course_step (Goes stage) line = step_of_lead (lead stage line)
 course_step (Failed ring place) line = passes (Failed ring place)
 
 -- what a call answers, with the course that it leaves

@@ -1,7 +1,7 @@
 // A journal, line by line, up to the first entry that isn't right.
 ghost use Rattle.std.specs.Prelude.{◌≡◌, ◌+◌, ◌<◌, ◌≤◌, ◌^◌, IfOk, OnErr, OnOk, length, option_copied, option_map};
 ghost use Rattle.xl_audit.specs.Limits.{most_bytes};
-ghost use Rattle.xl_shown.specs.Courses.{came_given, course_step, end_of as end_of_course, entries_in, keyed_end as keyed_end_of, led, list_in as list_in_course, may_end as may_end_of, ring_of, told_at, turn_given, IsReadyCourse};
+ghost use Rattle.xl_shown.specs.Courses.{came_given, course_step, end_of as end_of_course, entries_in, keyed_end as keyed_end_of, step_of_lead, list_in as list_in_course, may_end as may_end_of, ring_of, told_at, turn_given, IsReadyCourse};
 ghost use Rattle.xl_audit.specs.Judging.{entries_of, IsReady};
 ghost use Rattle.xl_audit.specs.Leading.{lead as lead_of, IsAskedAt};
 
@@ -77,10 +77,10 @@ enum Turn {
 }
 
 /// The entry that was read is judged.
-fn judge(alloc: Global, stage: &mut Stage, read: &ReadEntry<'_>) -> Result<Turn, OutOfMemory>
-    requires asked { IsAskedAt stage.old read.now }
+fn judge(alloc: Global, stage: &mut Stage, read: ReadEntry<'_>) -> Result<Turn, OutOfMemory>
+    requires asked { IsAskedAt stage.old read }
     requires few { entries_of stage.old + 1 < 2 ^ 64 }
-    ensures step { IfOk result (λ turn. turn_given turn stage.new ≡ told_at stage.old read.now) }
+    ensures step { IfOk result (λ turn. turn_given turn stage.new ≡ told_at stage.old read.entry) }
     ensures ready { IsReady stage.old → IsReady stage.new }
     ensures more { IfOk result (λ _. entries_of stage.new ≤ entries_of stage.old + 1) }
     ensures none { OnErr result (entries_of stage.new ≤ entries_of stage.old) }
@@ -89,7 +89,7 @@ fn judge(alloc: Global, stage: &mut Stage, read: &ReadEntry<'_>) -> Result<Turn,
         return Ok(Turn::Came(Came::Passed));
     };
     let place = *entries + 1;
-    match follow(auditor, &read.entry, read.reply)? {
+    match follow(alloc, auditor, read.entry, read.reply)? {
         Some(shown) => {
             *entries = place;
             Ok(Turn::Came(Came::Showed { place, shown }))
@@ -106,7 +106,7 @@ fn come_at(alloc: Global, stage: &mut Stage, line: &[u8]) -> Result<Turn, OutOfM
     requires ready { IsReady stage.old }
     requires few { entries_of stage.old + 1 < 2 ^ 64 }
     requires short { length line.now ≤ most_bytes }
-    ensures step { IfOk result (λ turn. turn_given turn stage.new ≡ led (lead_of stage.old line.now)) }
+    ensures step { IfOk result (λ turn. turn_given turn stage.new ≡ step_of_lead (lead_of stage.old line.now)) }
     ensures ready { IsReady stage.new }
     ensures more { IfOk result (λ _. entries_of stage.new ≤ entries_of stage.old + 1) }
     ensures none { OnErr result (entries_of stage.new ≤ entries_of stage.old) }
@@ -114,7 +114,7 @@ fn come_at(alloc: Global, stage: &mut Stage, line: &[u8]) -> Result<Turn, OutOfM
     match lead(alloc, stage, line)? {
         Lead::GoesOn => Ok(Turn::Came(Came::Passed)),
         Lead::Refused(why) => Ok(Turn::Came(Came::Refused(why))),
-        Lead::Tells(read) => judge(alloc, stage, &read),
+        Lead::Tells(read) => judge(alloc, stage, read),
     }
 }
 

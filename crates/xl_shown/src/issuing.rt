@@ -1,8 +1,7 @@
 // What a node issues.
 ghost use Rattle.std.specs.Prelude.{◌≡◌};
 ghost use Rattle.xl_core.specs.Deeds.{answer_of};
-ghost use Rattle.xl_shown.specs.Showing.{issued_in};
-ghost use Rattle.xl_world.specs.Seen.{said_by_beat};
+ghost use Rattle.xl_shown.specs.Showing.{issued_by_beat as issued_by_beat_of, issued_in};
 
 use xl_base::NodeNo;
 use xl_core::{CoreAnswer, CoreEvent, Issued, TimerAnswer};
@@ -10,7 +9,7 @@ use xl_lists::SaidLedger;
 
 /// The validation of a ledger that a timer built, if the node issued one.
 fn issued_by_beat(me: NodeNo, beat: &TimerAnswer) -> Option<SaidLedger>
-    ensures { result ≡ said_by_beat me beat.now }
+    ensures { result ≡ issued_by_beat_of me beat.now }
 {
     match beat {
         TimerAnswer::Built {

@@ -249,14 +249,14 @@ raw_event-again reading (honest ∷ digits ∷ []) w e stored =
     let within : (nat_le 1 (length r.value) && nat_le (length r.value) most_raw_bytes) ≡ true = subst (λ (bytes : List ℕ). (nat_le 1 (length bytes) && nat_le (length bytes) most_raw_bytes) ≡ true) p.1 p.0 in
     let parts = and_parts (nat_le 1 (length r.value)) (nat_le (length r.value) most_raw_bytes) within in
     let some : 1 ≤ length r.value = grind (arith, nat_tests) in
-    let few : length r.value ≤ 8240 = grind (arith, nat_tests) in
+    let few : length r.value ≤ most_raw_bytes = grind (arith, nat_tests) in
     let text = encode_lower r.value in
     let again : raw_bytes_of text ≡ Ok r.value =
     ap (λ read. ok_or (result_ok read) (refusal.Id text) >>= (λ bytes. cond (nat_le 1 (length bytes) && nat_le (length bytes) most_raw_bytes) (Ok bytes) (Err (refusal.Id text)))) (decode_of-encode_lower r.value fits)
     ∙ ap (λ b. cond b (Ok r.value) (Err (refusal.Id text))) within in
     let node = declared-same reading.nodes honest n.value n.gave in
     let node-small = declared-small reading.nodes honest n.value n.gave in
-    let text-small = bytes-small 8240 r.value fits some few in
+    let text-small = bytes-small most_raw_bytes r.value fits some few in
     record {
       arguments = honest ∷ text ∷ [];
       words = ap what_words (sym is) ∙ cc node;

@@ -26,22 +26,25 @@ is_run run = not (length run == 0)
 
 -- ---- A LAST BYTE THAT IS A RETURN
 
+abbrev return_byte : ℕ
+return_byte = 13
+
 abbrev pub ends_in_return : List ℕ → Bool
-ends_in_return bytes = slice_index bytes (length bytes - 1) == 13
+ends_in_return bytes = slice_index bytes (length bytes - 1) == return_byte
 
 -- without it
 abbrev pub unreturned : List ℕ → List ℕ
 unreturned bytes = cond (ends_in_return bytes) (take (length bytes - 1) bytes) bytes
 
-cut_last : (b : ℕ) (bs : List ℕ) → (slice_index (b ∷ bs) (length bs) == 13) ≡ true → b ∷ bs ≡ take (length bs) (b ∷ bs) ++ 13 ∷ []
-cut_last b [] h = ap (λ (x : ℕ). x ∷ []) (eqb-true b 13 h)
+cut_last : (b : ℕ) (bs : List ℕ) → (slice_index (b ∷ bs) (length bs) == return_byte) ≡ true → b ∷ bs ≡ take (length bs) (b ∷ bs) ++ return_byte ∷ []
+cut_last b [] h = ap (λ (x : ℕ). x ∷ []) (eqb-true b return_byte h)
 cut_last b (c ∷ bs) h = ap (λ (xs : List ℕ). b ∷ xs) (cut_last c bs h)
 
-returned : (bytes : List ℕ) → ends_in_return bytes ≡ true → bytes ≡ take (length bytes - 1) bytes ++ 13 ∷ []
+returned : (bytes : List ℕ) → ends_in_return bytes ≡ true → bytes ≡ take (length bytes - 1) bytes ++ return_byte ∷ []
 returned [] h = absurd (cc)
 returned (b ∷ bs) h =
     let one : length bs ≡ length (b ∷ bs) - 1 = omega arith in
-    subst (λ (n : ℕ). (slice_index (b ∷ bs) n == 13) ≡ true → b ∷ bs ≡ take n (b ∷ bs) ++ 13 ∷ []) one (cut_last b bs) h
+    subst (λ (n : ℕ). (slice_index (b ∷ bs) n == return_byte) ≡ true → b ∷ bs ≡ take n (b ∷ bs) ++ return_byte ∷ []) one (cut_last b bs) h
 
 -- a token that ends the line where none before does
 last_of : (t : List ℕ) (ts : List (List ℕ)) → (EndsInk ts → ⊥) → EndsInk (t ∷ ts) → ⊥
@@ -61,12 +64,12 @@ onto_unseen b ((c ∷ cs) ∷ rs) never h =
     (subst EndsInk (filter-kept (b ∷ c ∷ cs) rs (omega arith)) h)
 
 -- a return at the end is in the last token
-unseen : (front : List ℕ) → EndsInk (tokens (front ++ 13 ∷ [])) → ⊥
+unseen : (front : List ℕ) → EndsInk (tokens (front ++ return_byte ∷ [])) → ⊥
 unseen [] h = omega (arith, h.0.0)
 unseen (b ∷ front) h =
-    elim (is_blank b) as (λ v. EndsInk (filter is_run (cond v ([] ∷ slice_split is_blank (front ++ 13 ∷ [])) (onto_first b (slice_split is_blank (front ++ 13 ∷ []))))) → ⊥) [
+    elim (is_blank b) as (λ v. EndsInk (filter is_run (cond v ([] ∷ slice_split is_blank (front ++ return_byte ∷ [])) (onto_first b (slice_split is_blank (front ++ return_byte ∷ []))))) → ⊥) [
       | true ↦ λ k. unseen front k
-      | false ↦ λ k. onto_unseen b (slice_split is_blank (front ++ 13 ∷ [])) (unseen front) k
+      | false ↦ λ k. onto_unseen b (slice_split is_blank (front ++ return_byte ∷ [])) (unseen front) k
     ] h
 
 no_return : (bytes : List ℕ) → EndsInk (tokens bytes) → ends_in_return bytes ≡ false
@@ -78,6 +81,10 @@ no_return bytes ink = by (ends_in_return bytes) refl
 
 -- ---- LINES THAT SAY NOTHING
 
+-- a comment begins with `#`
+abbrev comment_byte : ℕ
+comment_byte = 35
+
 says_nothing : List (List ℕ) → Bool
 says_nothing [] = true
 says_nothing (t ∷ ts) = is_comment t
@@ -85,9 +92,9 @@ says_nothing (t ∷ ts) = is_comment t
 -- the same by bytes: behind blanks a comment begins, or nothing stands there
 begins_nothing : List ℕ → Bool
 begins_nothing [] = true
-begins_nothing (b ∷ bs) = cond (is_blank b) (begins_nothing bs) (b == 35)
+begins_nothing (b ∷ bs) = cond (is_blank b) (begins_nothing bs) (b == comment_byte)
 
-onto_begins : (b : ℕ) (runs : List (List ℕ)) → says_nothing (filter is_run (onto_first b runs)) ≡ (b == 35)
+onto_begins : (b : ℕ) (runs : List (List ℕ)) → says_nothing (filter is_run (onto_first b runs)) ≡ (b == comment_byte)
 unfolding says_nothing
 onto_begins b [] = ap says_nothing (filter-kept (b ∷ []) [] (omega arith))
 onto_begins b (r ∷ rs) = ap says_nothing (filter-kept (b ∷ r) rs (omega arith))
@@ -96,7 +103,7 @@ tokens_begin : (bs : List ℕ) → says_nothing (tokens bs) ≡ begins_nothing b
 unfolding says_nothing begins_nothing
 tokens_begin [] = refl
 tokens_begin (b ∷ bs) =
-    elim (is_blank b) as (λ v. says_nothing (filter is_run (cond v ([] ∷ slice_split is_blank bs) (onto_first b (slice_split is_blank bs)))) ≡ cond v (begins_nothing bs) (b == 35)) [
+    elim (is_blank b) as (λ v. says_nothing (filter is_run (cond v ([] ∷ slice_split is_blank bs) (onto_first b (slice_split is_blank bs)))) ≡ cond v (begins_nothing bs) (b == comment_byte)) [
       | true ↦ tokens_begin bs
       | false ↦ onto_begins b (slice_split is_blank bs)
     ]
@@ -106,7 +113,7 @@ unfolding begins_nothing
 begins_front zero bs h = refl
 begins_front (suc n) [] h = refl
 begins_front (suc n) (b ∷ bs) h =
-    elim (is_blank b) as (λ v. cond v (begins_nothing bs) (b == 35) ≡ true → cond v (begins_nothing (take n bs)) (b == 35) ≡ true) [
+    elim (is_blank b) as (λ v. cond v (begins_nothing bs) (b == comment_byte) ≡ true → cond v (begins_nothing (take n bs)) (b == comment_byte) ≡ true) [
       | true ↦ λ k. begins_front n bs k
       | false ↦ λ k. k
     ] h

@@ -36,6 +36,10 @@ use Rattle.xl_spelling.proofs.Small.{IsInk, IsInked, IsSmall, small-inked, numbe
 use Rattle.xl_spelling.proofs.Asks.{IsAgain, ledger_id-read}
 use Rattle.xl_spelling.proofs.WordLemmas.{lie_text, lie_text-same}
 
+-- the digits of an id, and the byte beside them
+abbrev id_spread : ℕ
+id_spread = 65
+
 -- the digits of other ids are those ids
 set_id-read : (names : List Named) (t : List ℕ) (id : SetId) → IsId id.0 → set_id_of names t ≡ Ok id → set_id_of names (encode_lower id.0) ≡ set_id_of names t
 set_id-read names t id h e = ap (λ read. read >>= (λ i. Ok (record { 0 = i }))) (id-read names id.0 h) ∙ sym e
@@ -98,7 +102,7 @@ record IsToldAgain (names : List Named) (old : Option (List ℕ)) (told : Option
   fits : told_tokens new ≡ tokens
   count : length tokens ≡ length (told_tokens old)
   ink : AllByRecursion IsInked tokens
-  few : spread tokens ≤ 65
+  few : spread tokens ≤ id_spread
 
 told-again : (names : List Named) (old : Option (List ℕ)) (told : Option LedgerId) → told_if names old ≡ Ok told → IfSome told (λ id. IsId id.0) → IsToldAgain names old told
 told-again names None told e stored =
@@ -268,7 +272,7 @@ hexes-ink : (ids : List TxId) → AreIds ids → AllByRecursion (AllByRecursion 
 hexes-ink [] h = tt
 hexes-ink (id ∷ ids) h = ((id-small id.0 h.0).ink, hexes-ink ids h.1)
 
-hexes-spread : (ids : List TxId) → AreIds ids → spread (hexes ids) ≡ 65 * length ids
+hexes-spread : (ids : List TxId) → AreIds ids → spread (hexes ids) ≡ id_spread * length ids
 hexes-spread [] h = refl
 hexes-spread (id ∷ ids) h = omega (arith, h.0.0, length-encode_with lower_digits id.0, hexes-spread ids h.1)
 
@@ -287,7 +291,7 @@ set-few names token ids e =
 -- the spelling of a set
 record IsSetAgain (names : List Named) (ids : List TxId) : Type 0 where
   same : tx_set_of names (set_word ids) ≡ Ok ids
-  small : IsSmall 16640 (set_word ids)
+  small : IsSmall (id_spread * most_ids) (set_word ids)
 
 joined-again : (names : List Named) (parts : List (List ℕ)) (ids : List TxId) → risen_ids_of names None parts ≡ Ok ids → length ids ≤ most_ids → AreIds ids → IsSetAgain names ids
 joined-again names parts [] e few h = record { same = refl; small = record { some = omega arith; few = omega arith; ink = inked (codes "-") refl } }
@@ -295,7 +299,7 @@ joined-again names parts (id ∷ ids) e few h =
     let token = with_commas (hexes (id ∷ ids)) in
     let clear = hexes-clear (id ∷ ids) h in
     let cut : entries token ≡ hexes (id ∷ ids) = cut-joined 44 (λ b. b == 44) (encode_lower id.0) (hexes ids) refl clear.0 clear.1 in
-    let long : length token + 1 ≡ 65 * length (id ∷ ids) = joined-spread 44 (encode_lower id.0) (hexes ids) ∙ hexes-spread (id ∷ ids) h in
+    let long : length token + 1 ≡ id_spread * length (id ∷ ids) = joined-spread 44 (encode_lower id.0) (hexes ids) ∙ hexes-spread (id ∷ ids) h in
     let none : bytes_eq token (codes "-") ≡ false = never-true (bytes_eq token (codes "-")) (λ same. omega (arith, long, ap length ((bytes_eq-Decides token (codes "-")).0 same))) in
     let within : nat_le (length (id ∷ ids)) most_ids ≡ true = grind (arith, nat_tests) in
     record {
@@ -334,7 +338,7 @@ tx_set-again names (token ∷ []) l e stored =
       words = ap lied_words (sym is);
       same = ap (λ read. read >>= (λ ids. Ok (lied.TxSet ids))) again.same ∙ ap (λ l. Ok l) is;
       count = refl;
-      like = inr ((small-inked 16640 (set_word i.value) small, tt), omega (arith, small.few));
+      like = inr ((small-inked (id_spread * most_ids) (set_word i.value) small, tt), omega (arith, small.few));
     }
 
 -- a lie of whichever word

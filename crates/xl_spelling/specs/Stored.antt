@@ -26,26 +26,14 @@ IsStoredLied (lied.Tx id) = IsId id.0
 abbrev pub IsStoredWhat : What → Type 0
 IsStoredWhat (what.Ask ask) = IsStoredAsk ask
 IsStoredWhat (what.Submit node tx) = IsId tx.0
-IsStoredWhat what.Timers = Unit {0}
 IsStoredWhat (what.Deliver place) = place < 2 ^ 64
-IsStoredWhat what.All = Unit {0}
-IsStoredWhat what.Drop = Unit {0}
-IsStoredWhat (what.Greet node peer) = Unit {0}
-IsStoredWhat (what.Restart node) = Unit {0}
 IsStoredWhat (what.Cut new ask) = IsStoredAsk ask
 IsStoredWhat (what.Fail new ask) = IsStoredAsk ask
 IsStoredWhat (what.Lie from to lie) = IsStoredLied lie
 IsStoredWhat (what.Raw to bytes) = IsBytes bytes
-IsStoredWhat (what.Prefer node) = Unit {0}
-IsStoredWhat (what.Heard node) = Unit {0}
-IsStoredWhat (what.List node list) = Unit {0}
+IsStoredWhat other = Unit {0}
 
 abbrev pub IsStored : Line → Type 0
-IsStored (line.Limit limit) = Unit {0}
-IsStored (line.Speak version) = Unit {0}
-IsStored (line.Node me list validating) = Unit {0}
-IsStored (line.Liar me) = Unit {0}
 IsStored (line.Name name id) = IsId id
-IsStored (line.Ledger name parent header) = Unit {0}
-IsStored (line.At at) = Unit {0}
 IsStored (line.Event event) = IsStoredWhat event.what
+IsStored other = Unit {0}

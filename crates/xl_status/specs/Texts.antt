@@ -4,6 +4,7 @@ use Rattle.std.specs.declared.option.Option.{Option}
 use Rattle.std.specs.List.{flat_map}
 use Rattle.hex.specs.Hex.{encode_lower}
 use Rattle.xl_base.specs.declared.status.Status.{Status}
+use Rattle.xl_base.specs.declared.status.Status.TheVariants.{Done, KeepFault, NetFault, StoreFull}
 use Rattle.xl_base.specs.Statuses.{code_of}
 use Rattle.xl_core.specs.declared.report.Report.{Report}
 use Rattle.xl_store.specs.declared.status.NodeStatus.{NodeStatus}
@@ -32,7 +33,8 @@ validating_line validating =
 -- what it is run with
 unfoldable pub profile_lines : Profile → List ℕ
 profile_lines p =
-    validating_line p.validating
+    number_line (codes "me") p.me
+    ++ validating_line p.validating
     ++ number_line (codes "speak") p.speak
     ++ number_line (codes "turns") p.turns
     ++ number_line (codes "heartbeat_ms") p.heartbeat_ms
@@ -51,8 +53,7 @@ ledger_line word (Some ledger) = line word (decimal ledger.seq ++ space ++ encod
 -- what its core tells
 unfoldable pub core_lines : NodeStatus → List ℕ
 core_lines s =
-    number_line (codes "me") s.me
-    ++ number_line (codes "moment") s.time
+    number_line (codes "moment") s.time
     ++ number_line (codes "limit") s.limit
     ++ number_line (codes "ledgers") s.ledgers
     ++ number_line (codes "kept") s.kept
@@ -74,10 +75,18 @@ member_line status hearing member =
 abbrev pub member_lines : NodeStatus → Hearing → List ℕ
 member_lines status hearing = flat_map (member_line status hearing) status.list.members
 
+-- what an end names: the key whose bound was reached, the file that failed, or the key of the addresses of which one did
+abbrev pub named_by : Status → List ℕ
+named_by Done = codes " run_ms"
+named_by KeepFault = codes " xl.keep"
+named_by NetFault = codes " peer"
+named_by StoreFull = codes " turns"
+named_by other = []
+
 -- it runs, or has ended with this exit status
 abbrev pub end_line : Option Status → List ℕ
 end_line None = codes "runs" ++ newline
-end_line (Some status) = number_line (codes "ended") (code_of status)
+end_line (Some status) = line (codes "ended") (decimal (code_of status) ++ named_by status)
 
 -- all of it
 abbrev pub status_text : Profile → NodeStatus → Hearing → Option Status → List ℕ
@@ -87,3 +96,11 @@ status_text profile status hearing ended =
     ++ core_lines status
     ++ member_lines status hearing
     ++ end_line ended
+
+-- what is told of a node whose core was never opened, by the moment at which it should have been
+abbrev pub unopened_text : Profile → ℕ → Status → List ℕ
+unopened_text profile moment ended =
+    line (codes "xl-status") (codes "1")
+    ++ profile_lines profile
+    ++ number_line (codes "moment") moment
+    ++ end_line (Some ended)

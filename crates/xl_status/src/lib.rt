@@ -11,7 +11,7 @@ mod text;
 
 pub use hearing::Hearing;
 pub use profile::Profile;
-pub use text::push_status;
+pub use text::{push_status, push_unopened};
 
 #[cfg(test)]
 mod tests;

@@ -1,8 +1,10 @@
-use xl_base::Millis;
+use xl_base::{Millis, NodeNo};
 
 /// What a node is run with, beside what its core tells. No key is in it.
 #[derive(Clone, Copy, PartialEq, Eq)]
 pub struct Profile {
+    /// The node's number.
+    pub me: NodeNo,
     pub validating: bool,
     /// The version of its validations.
     pub speak: u8,

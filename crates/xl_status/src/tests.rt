@@ -5,13 +5,17 @@ use xl_core::Report;
 use xl_lists::List;
 use xl_store::NodeStatus;
 
-const PROFILE: Profile = Profile {
-    validating: true,
-    speak: 2,
-    turns: 10_000_000,
-    heartbeat_ms: 1000,
-    run_ms: 0,
-};
+/// What node 2 is run with.
+fn profile() -> Result<Profile, Fail> {
+    Ok(Profile {
+        me: NodeNo::new(2).ok_or("number")?,
+        validating: true,
+        speak: 2,
+        turns: 10_000_000,
+        heartbeat_ms: 1000,
+        run_ms: 0,
+    })
+}
 
 /// Node 2 of the list 1, 2, 3 at a moment, by which members 1 and 2 are heard.
 fn status(time: u64) -> Result<NodeStatus, Fail> {
@@ -37,12 +41,12 @@ fn status(time: u64) -> Result<NodeStatus, Fail> {
 }
 
 const FRONT: &str = "xl-status 1
+me 2
 validating yes
 speak 2
 turns 10000000
 heartbeat_ms 1000
 run_ms 0
-me 2
 moment 9000
 limit 16384
 ledgers 8
@@ -55,7 +59,7 @@ fn tells_who_is_silent(rt: HostRuntime) -> Result<(), Fail> {
     let status = status(9000)?;
     hearing.note(&status);
     let mut text = String::new(rt.alloc());
-    push_status(rt.alloc(), &mut text, &PROFILE, &status, &hearing, None)?;
+    push_status(rt.alloc(), &mut text, &profile()?, &status, &hearing, None)?;
     let id = "0a0a0a0a0a0a0a0a0a0a0a0a0a0a0a0a0a0a0a0a0a0a0a0a0a0a0a0a0a0a0a0a";
     let told = format!(in rt.alloc();
         "{FRONT}issues yes\nreport 6 {id}\nprefers none\nlost 0\nquorum 2\nheard 1\nheard 2\nsilent 3 5000\nruns\n"
@@ -74,13 +78,24 @@ fn tells_how_it_ended(rt: HostRuntime) -> Result<(), Fail> {
     push_status(
         rt.alloc(),
         &mut text,
-        &PROFILE,
+        &profile()?,
         &status,
         &Hearing::new(5000),
         ended,
     )?;
     let told = format!(in rt.alloc();
-        "{FRONT}issues no 8\nreport none\nprefers none\nlost 0\nquorum 2\nheard 1\nheard 2\nsilent 3 5000\nended 7\n"
+        "{FRONT}issues no 8\nreport none\nprefers none\nlost 0\nquorum 2\nheard 1\nheard 2\nsilent 3 5000\nended 7 xl.keep\n"
+    )?;
+    assert_eq!(rt; text.as_str(), told.as_str());
+    Ok(())
+}
+
+#[test]
+fn tells_how_it_ended_before_it_was_opened(rt: HostRuntime) -> Result<(), Fail> {
+    let mut text = String::new(rt.alloc());
+    push_unopened(&mut text, &profile()?, 5000, Status::OutOfMemory)?;
+    let told = format!(in rt.alloc();
+        "xl-status 1\nme 2\nvalidating yes\nspeak 2\nturns 10000000\nheartbeat_ms 1000\nrun_ms 0\nmoment 5000\nended 6\n"
     )?;
     assert_eq!(rt; text.as_str(), told.as_str());
     Ok(())

@@ -1,5 +1,5 @@
 // The lines, added to a text.
-ghost use Rattle.std.specs.Prelude.{◌≡◌, ◌++◌, codes, decimal, OnOk};
+ghost use Rattle.std.specs.Prelude.{◌≡◌, ◌++◌, Some, codes, decimal, OnOk};
 ghost use Rattle.std.specs.List.{flat_map};
 ghost use Rattle.std.specs.String.{string_bytes};
 ghost use Rattle.hex.specs.Hex.{encode_lower};
@@ -13,8 +13,10 @@ ghost use Rattle.xl_status.specs.Texts.{
   member_line,
   member_lines,
   silent_line,
+  named_by,
   end_line,
   status_text,
+  unopened_text,
 };
 
 use crate::hearing::is_heard;
@@ -44,10 +46,27 @@ pub fn push_status(
     push_end(text, ended)
 }
 
+/// The text of a node that ended so before its core was opened, which it should have been at this moment.
+pub fn push_unopened(
+    text: &mut String,
+    profile: &Profile,
+    moment: Millis,
+    ended: Status,
+) -> Result<(), OutOfMemory>
+    ensures { OnOk result (string_bytes text.new
+        ≡ string_bytes text.old ++ unopened_text profile.now moment ended) }
+{
+    text.push_str("xl-status 1\n")?;
+    push_profile(text, profile)?;
+    push_number(text, "moment", moment)?;
+    push_end(text, Some(ended))
+}
+
 #[tactic(auto, unfolding(crate::specs::Texts::profile_lines))]
 fn push_profile(text: &mut String, profile: &Profile) -> Result<(), OutOfMemory>
     ensures { OnOk result (string_bytes text.new ≡ string_bytes text.old ++ profile_lines profile.now) }
 {
+    push_number(text, "me", u64::from(profile.me.get()))?;
     push_validating(text, profile.validating)?;
     push_number(text, "speak", u64::from(profile.speak))?;
     push_number(text, "turns", profile.turns)?;
@@ -71,7 +90,6 @@ fn push_validating(text: &mut String, validating: bool) -> Result<(), OutOfMemor
 fn push_core(alloc: Global, text: &mut String, status: &NodeStatus) -> Result<(), OutOfMemory>
     ensures { OnOk result (string_bytes text.new ≡ string_bytes text.old ++ core_lines status.now) }
 {
-    push_number(text, "me", u64::from(status.me.get()))?;
     push_number(text, "moment", status.time)?;
     push_number(text, "limit", u64::from(status.limit))?;
     push_number(text, "ledgers", u64::from(status.ledgers))?;
@@ -176,9 +194,37 @@ fn push_end(text: &mut String, ended: Option<Status>) -> Result<(), OutOfMemory>
 {
     match ended {
         None => text.push_str("runs\n")?,
-        Some(status) => push_number(text, "ended", u64::from(status.code()))?,
+        Some(status) => push_cause(text, status)?,
     }
     Ok(())
+}
+
+/// With which exit status it ended, and what that names.
+fn push_cause(text: &mut String, status: Status) -> Result<(), OutOfMemory>
+    ensures { OnOk result (string_bytes text.new ≡ string_bytes text.old ++ end_line (Some status)) }
+{
+    let code = status.code();
+    let name = named_by(status);
+    write!(text, "ended {code}{name}\n")?;
+    Ok(())
+}
+
+/// What an end names, behind a space.
+fn named_by(status: Status) -> &'static str
+    ensures { result.now ≡ named_by status }
+{
+    match status {
+        Status::Done => " run_ms",
+        Status::KeepFault => " xl.keep",
+        Status::NetFault => " peer",
+        Status::StoreFull => " turns",
+        Status::Fork
+        | Status::WordsRefused
+        | Status::InputRefused
+        | Status::ReadFault
+        | Status::WriteFault
+        | Status::OutOfMemory => "",
+    }
 }
 
 /// A line of a word and a number.

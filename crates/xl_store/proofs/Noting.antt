@@ -19,8 +19,8 @@ use Rattle.xl_core.specs.declared.timer_answer.Issued.TheVariants as issued
 use Rattle.xl_core.specs.declared.refusal.Refusal.{Refusal}
 use Rattle.xl_core.specs.declared.refusal.Refusal.TheVariants as why
 use Rattle.xl_core.specs.Answers.{Refused, Beats, Done, refusal_in}
-use Rattle.xl_core.specs.Building.{Knowing, knowing, how_issued}
-use Rattle.xl_core.specs.Node.{Node, Reply, Save, TimerOutcome, Quiet, Ending, replying, refusing, issuing_reply, issued_unless_off, own_validation, unless_failed, issued_reply, second_of, asks_for, asks_of, validates, validating_built, timer_reply, timer_outcome, chosen, seen, built, switch_outcome, built_outcome, kind_outcome, heartbeat_outcome}
+use Rattle.xl_core.specs.Building.{Knowing, knowing_of, how_issued}
+use Rattle.xl_core.specs.Node.{Node, Reply, Save, TimerOutcome, Quiet, Ending, reply_with, refusing_reply, issuing_reply, issued_unless_off, own_validation, unless_failed, issued_reply, second_of, asks_for, asks_of, validates, validating_built, timer_reply, timer_outcome, chosen, seen_of, next_header, switch_outcome, built_outcome, kind_outcome, heartbeat_outcome}
 use Rattle.xl_core.specs.Issuing.Save.{Kept, Failed}
 use Rattle.xl_core.specs.Keeping.{CountsFault}
 use Rattle.xl_core.specs.Replies as replies
@@ -139,7 +139,7 @@ issuing_with n seq id full save = by (nat_lt n.kept seq)
     v = own_validation n seq id full
 
     by : (above : Bool)
-        → outcome_as (how_told (if above then issued_unless_off n n.failed_save save v else refusing n (why.NotAfter n.kept)))
+        → outcome_as (how_told (if above then issued_unless_off n n.failed_save save v else refusing_reply n (why.NotAfter n.kept)))
         ≡ outcome_with (if above then unless_failed n.failed_save seq else None) save
     by true = unless_with n n.failed_save save v
     by false = refl
@@ -152,7 +152,7 @@ built_with n h moved_on save = by (validates n moved_on)
     issued_so : Reply
     issued_so = issuing_reply n h.seq (header_id h) (is_proposing n.round.setting.mode) save
 
-    by : (does : Bool) → outcome_as (how_told (if does then issued_so else replying n Done []))
+    by : (does : Bool) → outcome_as (how_told (if does then issued_so else reply_with n Done []))
         ≡ outcome_with (if does then asks_for n h.seq else None) save
     by true = issuing_with n h.seq (header_id h) (is_proposing n.round.setting.mode) save
     by false = refl
@@ -171,11 +171,11 @@ following_quiet : (n : Node) (said : Option Said) (k : HeartbeatKind) → IsTime
 following_quiet n said kind.Nothing = tt
 following_quiet n said kind.Closed = tt
 following_quiet n said kind.Updated = tt
-following_quiet n said (kind.Ready moved_on) = building_quiet n said moved_on (knowing n.ledgers (built n))
+following_quiet n said (kind.Ready moved_on) = building_quiet n said moved_on (knowing_of n.ledgers (next_header n))
 
 timed_quiet : (n : Node) → IsTimedQuiet (timer_outcome n)
 timed_quiet n =
-    let told : HeartbeatReply = heartbeat n.time (seen n) n.round in
+    let told : HeartbeatReply = heartbeat n.time (seen_of n) n.round in
     cond_both (chosen n == n.round.setting.previous) (heartbeat_outcome n told) (switch_outcome n (chosen n)) IsTimedQuiet
     (λ _. following_quiet (record n { round = told.round }) told.answer.said told.answer.kind) (λ _. tt)
 
@@ -234,7 +234,7 @@ issue_with r n seq id full save same = by (nat_lt n.kept seq)
     unless (Some failed) e = off_with r save (why.IssuingOff failed) same e refl
 
     by : (above : Bool)
-        → done_answer r ≡ (if above then issued_unless_off n n.failed_save save v else refusing n (why.NotAfter n.kept)).answer
+        → done_answer r ≡ (if above then issued_unless_off n n.failed_save save v else refusing_reply n (why.NotAfter n.kept)).answer
         → outcome_in r ≡ outcome_with (if above then unless_failed n.failed_save seq else None) save
     by true e = unless n.failed_save e
     by false e = off_with r save (why.NotAfter n.kept) same e refl

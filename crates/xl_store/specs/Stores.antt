@@ -16,7 +16,7 @@ use Rattle.xl_core.specs.declared.report.Report.{Report}
 use Rattle.xl_core.specs.Answers.{Answer, Gave, Handed}
 use Rattle.xl_core.specs.Core.{Core}
 use Rattle.xl_core.specs.CoreLives.{core_after}
-use Rattle.xl_core.specs.Queues.{joined}
+use Rattle.xl_core.specs.Queues.{stream_of}
 use Rattle.xl_store.specs.declared.entry.Entry.{Entry}
 use Rattle.xl_store.specs.declared.home.Home.{Home}
 use Rattle.xl_store.specs.declared.store.Store.{Store}
@@ -69,8 +69,8 @@ module _ {B K : Type 0} where
       (new : Pass Entry) : Type 0 where
     pub frames : List (List ℕ)
     pub called : Called store old (Drain member (length before)) (Gave member frames) new
-    pub count : written ≡ length (joined frames)
-    pub room : after ≡ joined frames ++ drop written before
+    pub count : written ≡ length (stream_of frames)
+    pub room : after ≡ stream_of frames ++ drop written before
 
   -- the pass made one call that handed out reports, with which the room begins
   pub record HandedOut (store : Store B K) (old : Pass Entry) (written : ℕ) (before after : List Report)

@@ -1,4 +1,4 @@
-ghost use Rattle.std.specs.Prelude.{◌≡◌, [], ◌∷◌, None, IfOk};
+ghost use Rattle.std.specs.Prelude.{◌≡◌, [], ◌∷◌, None, true, IfOk, OnErr};
 ghost use Rattle.xl_core.specs.declared.event.CoreEvent.{CoreEvent};
 ghost use Rattle.xl_store.specs.declared.entry.Entry.{Entry};
 ghost use Rattle.xl_store.specs.Entries.{page_of};
@@ -24,6 +24,7 @@ impl Page {
     pub(crate) fn of(alloc: Global, event: CoreEvent, keeps: bool) -> Result<Page, OutOfMemory>
         ensures page { IfOk result (λ page. on page ≡ page_of event None) }
         ensures node { IfOk result (λ page. has_node page ≡ keeps) }
+        ensures kept { OnErr result (keeps ≡ true) }
     {
         let entry = Entry {
             event,

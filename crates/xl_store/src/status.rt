@@ -1,7 +1,6 @@
 // How a node is, as its core tells it.
-ghost use Rattle.std.specs.Prelude.{◌≡◌, ◌+◌, ◌<◌, is_some};
-ghost use Rattle.xl_core.specs.Node.{preferred as preferred_of};
-ghost use Rattle.xl_store.specs.Statuses.{status_of, heard_in, is_heard, stands_for};
+ghost use Rattle.std.specs.Prelude.{◌≡◌, ◌+◌, ◌<◌};
+ghost use Rattle.xl_store.specs.Statuses.{status_of, heard_in, is_heard};
 
 use xl_base::{MOST_MEMBERS, Millis, NodeNo, Seq};
 use xl_core::{Core, Report};
@@ -40,8 +39,6 @@ impl NodeStatus {
         ensures { result ≡ status_of core.now }
     {
         let node = core.node();
-        let last = node.last().report;
-        let preferred = node.preferred();
         NodeStatus {
             me: node.me(),
             list: node.list().copy(),
@@ -50,27 +47,21 @@ impl NodeStatus {
             limit: node.limit(),
             kept: node.kept(),
             failed_save: node.failed_save(),
-            last,
-            preferred,
+            last: node.last().report,
+            preferred: node.preferred(),
             lost_reports: core.lost_reports(),
-            heard: heard_in(core, &last, &preferred),
+            heard: heard_in(core),
         }
     }
 }
 
 /// Whether each number is heard, from 1 on.
-fn heard_in<B: Branch + Drop>(
-    core: &Core<B>,
-    last: &Option<Report>,
-    preferred: &Option<Report>,
-) -> [bool; MOST_MEMBERS]
-    requires last { last.now ≡ core.now.node.last.report }
-    requires preferred { preferred.now ≡ preferred_of core.now.node }
+fn heard_in<B: Branch + Drop>(core: &Core<B>) -> [bool; MOST_MEMBERS]
     ensures { result ≡ heard_in core.now.node }
 {
     let mut heard = [false; MOST_MEMBERS];
     for place in 0..MOST_MEMBERS {
-        heard[place] = is_heard(core, member_at(place), last, preferred);
+        heard[place] = is_heard(core, member_at(place));
     }
     heard
 }
@@ -84,27 +75,8 @@ fn member_at(place: usize) -> NodeNo
 }
 
 /// Whether a member is heard.
-fn is_heard<B: Branch + Drop>(
-    core: &Core<B>,
-    member: NodeNo,
-    last: &Option<Report>,
-    preferred: &Option<Report>,
-) -> bool
-    requires last { last.now ≡ core.now.node.last.report }
-    requires preferred { preferred.now ≡ preferred_of core.now.node }
+fn is_heard<B: Branch + Drop>(core: &Core<B>, member: NodeNo) -> bool
     ensures { result ≡ is_heard core.now.node member }
 {
-    core.heard(member).is_some()
-        || stands_for(core, member, last)
-        || stands_for(core, member, preferred)
-}
-
-/// Whether a member's current validation is a full one of this ledger, if there is one.
-fn stands_for<B: Branch + Drop>(core: &Core<B>, member: NodeNo, ledger: &Option<Report>) -> bool
-    ensures { result ≡ stands_for core.now.node.rows member ledger.now }
-{
-    match ledger {
-        Some(report) => core.holds(member, report.seq, &report.id),
-        None => false,
-    }
+    core.node().current(member).is_some()
 }

@@ -6,6 +6,7 @@ use crate::entry::Entry;
 use crate::history::Histories;
 use crate::home::Home;
 use crate::journal::{Entries, Journal};
+use crate::spares::Spares;
 use std::alloc::Global;
 use xl_base::OutOfMemory;
 use xl_core::Core;
@@ -20,7 +21,9 @@ mod turns;
 /// Why a call had no turn. Nothing happened at the core then.
 #[derive(Clone, Copy, PartialEq, Eq)]
 pub enum StoreEnd {
-    /// Nothing was drawn: the memory for the entry is taken first. If entries aren't kept, only a frame's takes some.
+    /// Nothing was drawn: the memory for the entry is taken first. If entries aren't kept, only a frame's takes some. That
+    /// for a stop was taken when the store opened, and so was that for 64 questions whether the node is to stop, which
+    /// may be asked once it was told to.
     OutOfMemory,
     /// As many turns were drawn as the store has, which is that number.
     StoreFull(u64),
@@ -45,6 +48,7 @@ pub struct Store<B: Branch, K: Keeper> {
     pub(crate) lock: TicketLock<Box<Home<B, K>>, Entry, Histories<K>>,
     pub(crate) alloc: Global,
     pub(crate) keeps: bool,
+    pub(crate) spares: Spares,
     pub ghost kept: { (opening lock).value.kept ≡ entries_if keeps [] },
 }
 

@@ -6,10 +6,11 @@ use Rattle.xl_wire.specs.Raws.{RawFrame, raw_bytes, IsRaw, SpellsRaw}
 use Rattle.xl_wire.proofs.RawLaws.{one_raw}
 use Rattle.xl_tags.specs.Rings.{Ring}
 use Rattle.xl_tags.specs.Sealing.{before_tag, tag_by, with_tag, sealed}
+use Rattle.xl_wire.specs.declared.lengths.TheConstants.{HEAD}
 
 -- a frame's spelling is all but the tag, and the tag
 parted : (f : RawFrame) (tag : List ℕ) → raw_bytes (with_tag f []) ++ tag ≡ raw_bytes (with_tag f tag)
-parted f tag = ap (λ (x : List ℕ). take 14 (raw_bytes f) ++ (x ++ tag)) (append-nil f.body)
+parted f tag = ap (λ (x : List ℕ). take HEAD (raw_bytes f) ++ (x ++ tag)) (append-nil f.body)
 
 -- bytes that end with 32 others
 before_last : (front last : List ℕ) → length last ≡ 32 → before_tag (front ++ last) ≡ front

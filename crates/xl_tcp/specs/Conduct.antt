@@ -3,7 +3,7 @@
 -- headers go on from 1, has an allowance of its own.
 use Rattle.std.specs.Prelude.{ℕ, ◌+◌, ◌-◌, ◌^◌, ◌==◌, ◌&&◌, ◌||◌, min, nat_le, Bool, true, false, List, length, take, Option, Some, None, if◌then◌else◌}
 use Rattle.std.specs.Int.{from_be_bytes, w32}
-use Rattle.xl_wire.specs.Heads.{Split, split_of}
+use Rattle.xl_wire.specs.Kinds.{span}
 use Rattle.xl_wire.specs.Raws.{RawFrame}
 use Rattle.xl_links.specs.declared.link.Judgement.{Judgement}
 use Rattle.xl_links.specs.declared.link.Judgement.TheVariants as judged
@@ -14,6 +14,7 @@ use Rattle.xl_tcp.specs.declared.conduct.Payment.{Payment}
 use Rattle.xl_tcp.specs.declared.conduct.Payment.TheVariants.{Free, Greeting, Frame, Lacking}
 use Rattle.xl_tcp.specs.declared.conduct.Conduct.{Conduct}
 use Rattle.xl_tcp.specs.Allowances.{left_at, after_cost}
+use Rattle.xl_tcp.specs.Numbers.{each_frame, each_header, frames_at_once, frames_each_milli, headers_at_once, headers_each_milli, longest_silence, longest_silence_at_first, patience, patience_at_first, patience_with_known}
 
 -- a whole allowance, at its first moment
 abbrev pub full_at : ℕ → ℕ → ℕ → Allowance
@@ -21,7 +22,7 @@ full_at most each_milli now = record { most = most; each_milli = each_milli; lef
 
 -- a link's members may greet with 262,144 headers, and with 300 more in each second
 abbrev pub greetings_at : ℕ → Allowance
-greetings_at now = full_at 262144000 300 now
+greetings_at now = full_at headers_at_once headers_each_milli now
 
 -- of a peer whose connection begins: it has shown nothing
 abbrev pub begun_at : Allowance → ℕ → Conduct
@@ -34,7 +35,7 @@ begun_at greetings now = record {
   greets = false;
   next_header = 1;
   greetings = greetings;
-  frames = full_at 100000 25 now;
+  frames = full_at frames_at_once frames_each_milli now;
 }
 
 -- the sequence of the header that a frame tells, if it tells one
@@ -45,24 +46,19 @@ abbrev pub is_number : Option ℕ → ℕ → Bool
 is_number None wanted = false
 is_number (Some n) wanted = n == wanted
 
-abbrev pub is_header_of : Split → ℕ → Bool
-is_header_of (Split.Whole frame) wanted = is_number (header_in frame) wanted
-is_header_of (Split.Need lack) wanted = false
-is_header_of (Split.Refused refusal) wanted = false
-
 -- it is the header with which a greeting goes on
-abbrev pub goes_on : Conduct → List ℕ → Bool
-goes_on peer frame = is_header_of (split_of frame) peer.next_header
+abbrev pub goes_on : Conduct → RawFrame → Bool
+goes_on peer frame = is_number (header_in frame) peer.next_header
 
 -- it is that header, and so much is left
-abbrev pub may_greet : Conduct → List ℕ → ℕ → Bool
-may_greet peer frame now = goes_on peer frame && nat_le 1000 (left_at peer.greetings now)
+abbrev pub may_greet : Conduct → RawFrame → ℕ → Bool
+may_greet peer frame now = goes_on peer frame && nat_le each_header (left_at peer.greetings now)
 
 -- what any other frame costs
-abbrev pub cost_of : List ℕ → ℕ
-cost_of frame = min (1000 + length frame) (2 ^ 64 - 1)
+abbrev pub cost_of : RawFrame → ℕ
+cost_of frame = min (each_frame + span frame.body) (2 ^ 64 - 1)
 
-abbrev pub may_pay : Conduct → List ℕ → ℕ → Bool
+abbrev pub may_pay : Conduct → RawFrame → ℕ → Bool
 may_pay peer frame now = nat_le (cost_of frame) (left_at peer.frames now)
 
 -- the first frame is free; none follows it before it is judged, nor one that was forged
@@ -73,7 +69,7 @@ payment_as Unlisted greets pays = if pays then Frame else Lacking
 payment_as Member greets pays = if greets then Greeting else if pays then Frame else Lacking
 payment_as Forger greets pays = Lacking
 
-abbrev pub payment_of : Conduct → List ℕ → ℕ → Payment
+abbrev pub payment_of : Conduct → RawFrame → ℕ → Payment
 payment_of peer frame now = payment_as peer.manner (may_greet peer frame now) (may_pay peer frame now)
 
 abbrev pub is_paid : Payment → Bool
@@ -83,30 +79,24 @@ is_paid Frame = true
 is_paid Lacking = false
 
 -- it may be given on
-abbrev pub may_give : Conduct → List ℕ → ℕ → Bool
+abbrev pub may_give : Conduct → RawFrame → ℕ → Bool
 may_give peer frame now = is_paid (payment_of peer frame now)
 
-abbrev pub after_payment : Payment → Conduct → List ℕ → ℕ → Conduct
+abbrev pub after_payment : Payment → Conduct → RawFrame → ℕ → Conduct
 after_payment Free peer frame now = peer
-after_payment Greeting peer frame now = record peer { greetings = after_cost 1000 peer.greetings now }
+after_payment Greeting peer frame now = record peer { greetings = after_cost each_header peer.greetings now }
 after_payment Frame peer frame now = record peer { frames = after_cost (cost_of frame) peer.frames now }
 after_payment Lacking peer frame now = peer
 
 abbrev pub after_first : Manner → Manner
 after_first New = Shown
-after_first Shown = Shown
-after_first Unlisted = Unlisted
-after_first Member = Member
-after_first Forger = Forger
+after_first other = other
 
 abbrev pub told_first : Manner → ℕ → ℕ → ℕ
 told_first New told now = now
-told_first Shown told now = told
-told_first Unlisted told now = told
-told_first Member told now = told
-told_first Forger told now = told
+told_first other told now = told
 
-abbrev pub after_given : Conduct → List ℕ → ℕ → Conduct
+abbrev pub after_given : Conduct → RawFrame → ℕ → Conduct
 after_given peer frame now = record peer {
   manner = after_first peer.manner;
   latest = now;
@@ -116,7 +106,7 @@ after_given peer frame now = record peer {
 }
 
 -- one that is given is paid for and noted; one that is held back changes nothing
-abbrev pub after_frame : Conduct → List ℕ → ℕ → Conduct
+abbrev pub after_frame : Conduct → RawFrame → ℕ → Conduct
 after_frame peer frame now =
     if may_give peer frame now then after_payment (payment_of peer frame now) (after_given peer frame now) frame now
     else peer
@@ -136,11 +126,8 @@ after_judgement peer judged.Forged now = record peer { manner = Forger }
 
 -- no whole frame for a minute, and for five before the first one
 abbrev pub silence_of : Manner → ℕ
-silence_of New = 300000
-silence_of Shown = 60000
-silence_of Unlisted = 60000
-silence_of Member = 60000
-silence_of Forger = 60000
+silence_of New = longest_silence_at_first
+silence_of other = longest_silence
 
 abbrev pub is_silent : Conduct → ℕ → Bool
 is_silent peer now = nat_le (silence_of peer.manner) (now - peer.latest)
@@ -148,4 +135,5 @@ is_silent peer now = nat_le (silence_of peer.manner) (now - peer.latest)
 -- nothing told for 20 seconds, or for two by one that never told anything; or known frames alone for five minutes
 abbrev pub is_over : Conduct → ℕ → Bool
 is_over peer now =
-    nat_le (if peer.has_told then 20000 else 2000) (now - peer.told) || nat_le 300000 (now - peer.fresh)
+    nat_le (if peer.has_told then patience else patience_at_first) (now - peer.told)
+    || nat_le patience_with_known (now - peer.fresh)

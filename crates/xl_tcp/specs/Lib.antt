@@ -1,3 +1,4 @@
+pub mod Numbers
 pub mod Moments
 pub mod Answers
 pub mod Connections

@@ -1,5 +1,5 @@
 ghost use Rattle.std.specs.Prelude.{◌≡◌, ◌≤◌, IfOk, length};
-ghost use Rattle.xl_tcp.specs.Callers.{may_stay, standing_by};
+ghost use Rattle.xl_tcp.specs.Callers.{is_ready, makes_room, may_stay, standing_by};
 
 use crate::answers::{is_absence, is_late};
 use std::alloc::Global;
@@ -22,12 +22,15 @@ const PATIENCE: Millis = 10_000;
 /// How long one may wait that has.
 const PATIENCE_WHEN_READY: Millis = 60_000;
 
+/// After so long one that has sent nothing is served in its turn: it may be a member that has nothing to say.
+const QUIET: Millis = 2000;
+
 /// Callers that aren't served yet, in the order in which they came. Their streams don't wait.
 ///
-/// One is ready as soon as it has sent a whole frame. One that has sent nothing may be a member that has nothing to say,
-/// and is served while nobody is ready. One is let go if it is gone, if what it has sent begins no frame, if it isn't
-/// ready after ten seconds, and if it wasn't served within a minute. If as many wait as may, the first that isn't ready
-/// makes room for whoever calls.
+/// One is ready as soon as it has sent a whole frame, and if it has sent nothing for two seconds, since a member may have
+/// nothing to say. Before that it is served while nobody is ready. One is let go if it is gone, if what it has sent
+/// begins no frame, if it has shown no frame after ten seconds, and if it wasn't served within a minute. If as many wait
+/// as may, the first that has sent less than a frame makes room for whoever calls.
 #[derive(Drop)]
 pub(crate) struct Callers<S> {
     waiting: VecDeque<Caller<S>>,
@@ -78,9 +81,9 @@ impl<S: OpenStream + Drop> Callers<S> {
         Ok(())
     }
 
-    /// As many wait as may, and each is ready.
+    /// As many wait as may, and none makes room.
     fn is_full(&self) -> bool {
-        self.waiting.len() >= MOST && self.first_unready().is_none()
+        self.waiting.len() >= MOST && self.first_that_makes_room().is_none()
     }
 
     fn take_in(&mut self, stream: S, now: Millis) -> io::Result<()> {
@@ -95,44 +98,74 @@ impl<S: OpenStream + Drop> Callers<S> {
         Ok(())
     }
 
-    /// Lets go of the first that isn't ready.
     fn let_one_go(&mut self) {
-        if let Some(place) = self.first_unready() {
+        if let Some(place) = self.first_that_makes_room() {
             self.waiting.remove(place);
         }
     }
 
-    fn first_unready(&self) -> Option<usize> {
+    fn first_that_makes_room(&self) -> Option<usize> {
         self.waiting
             .iter()
-            .position(|caller| standing_of(&caller.stream) != Standing::Ready)
+            .position(|caller| makes_room(standing_of(&caller.stream)))
     }
 
     /// The first that is ready, and if none is, the first that has sent nothing. It waits no longer here.
-    pub(crate) fn next(&mut self) -> Option<S> {
-        let place = match self.first(Standing::Ready) {
-            None => self.first(Standing::Quiet),
+    pub(crate) fn next(&mut self, now: Millis) -> Option<S> {
+        let place = match self.first_ready(now) {
+            None => self.first_quiet(),
             ready => ready,
         };
         let caller = self.waiting.remove(place?)?;
         Some(caller.stream)
     }
 
-    pub(crate) fn is_any_ready(&self) -> bool {
-        self.first(Standing::Ready).is_some()
+    pub(crate) fn is_any_ready(&self, now: Millis) -> bool {
+        self.first_ready(now).is_some()
     }
 
-    /// The place of the first that stands so.
-    fn first(&self, standing: Standing) -> Option<usize> {
+    fn first_ready(&self, now: Millis) -> Option<usize> {
+        self.waiting.iter().position(|caller| is_ready(
+            standing_of(&caller.stream),
+            waited(caller, now),
+        ))
+    }
+
+    fn first_quiet(&self) -> Option<usize> {
         self.waiting
             .iter()
-            .position(|caller| standing_of(&caller.stream) == standing)
+            .position(|caller| standing_of(&caller.stream) == Standing::Quiet)
     }
 }
 
 fn may_wait<S: OpenStream>(caller: &Caller<S>, now: Millis) -> bool {
-    let waited = now.saturating_sub(caller.came);
-    may_stay(standing_of(&caller.stream), waited)
+    may_stay(standing_of(&caller.stream), waited(caller, now))
+}
+
+/// For how many milliseconds it has waited.
+fn waited<S>(caller: &Caller<S>, now: Millis) -> Millis {
+    now.saturating_sub(caller.came)
+}
+
+/// One that stands so is served in its turn, after so many milliseconds.
+fn is_ready(standing: Standing, waited: Millis) -> bool
+    ensures { result ≡ is_ready standing waited }
+{
+    match standing {
+        Standing::Gone | Standing::Begun => false,
+        Standing::Quiet => waited >= QUIET,
+        Standing::Ready => true,
+    }
+}
+
+/// One that stands so is let go if another calls and no place is left.
+fn makes_room(standing: Standing) -> bool
+    ensures { result ≡ makes_room standing }
+{
+    match standing {
+        Standing::Gone | Standing::Begun => true,
+        Standing::Quiet | Standing::Ready => false,
+    }
 }
 
 /// One that stands so may wait on, after so many milliseconds.

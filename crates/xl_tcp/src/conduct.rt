@@ -21,10 +21,7 @@ ghost use Rattle.xl_tcp.specs.Conduct.{
 use crate::allowance::Allowance;
 use xl_base::Millis;
 use xl_links::Judgement;
-use xl_wire::{Parted, Raw, split};
-
-/// The kind of a frame that tells a header.
-const HEADER: u8 = 3;
+use xl_wire::{HEADER, Raw};
 
 /// What a frame costs besides its bytes.
 const EACH_FRAME: u64 = 1000;
@@ -186,9 +183,9 @@ impl Conduct {
     }
 
     /// Whether a whole frame may be given now. One that may is noted.
-    pub(crate) fn gives(&mut self, frame: &[u8], now: Millis) -> bool
-        ensures answer { result ≡ may_give self.old frame.now now }
-        ensures noted { self.new ≡ after_frame self.old frame.now now }
+    pub(crate) fn gives(&mut self, frame: &Raw<'_>, now: Millis) -> bool
+        ensures answer { result ≡ may_give self.old (raw_frame frame.now) now }
+        ensures noted { self.new ≡ after_frame self.old (raw_frame frame.now) now }
     {
         let payment = self.payment(frame, now);
         if payment == Payment::Lacking {
@@ -200,8 +197,8 @@ impl Conduct {
     }
 
     /// What pays for a frame.
-    fn payment(&self, frame: &[u8], now: Millis) -> Payment
-        ensures { result ≡ payment_of self.now frame.now now }
+    fn payment(&self, frame: &Raw<'_>, now: Millis) -> Payment
+        ensures { result ≡ payment_of self.now (raw_frame frame.now) now }
     {
         match self.manner {
             Manner::New => Payment::Free,
@@ -215,14 +212,14 @@ impl Conduct {
     }
 
     /// It is the header with which a greeting goes on, and so much is left.
-    fn may_greet(&self, frame: &[u8], now: Millis) -> bool
-        ensures { result ≡ may_greet self.now frame.now now }
+    fn may_greet(&self, frame: &Raw<'_>, now: Millis) -> bool
+        ensures { result ≡ may_greet self.now (raw_frame frame.now) now }
     {
         self.is_greeting(frame) && self.greetings.has(EACH_HEADER, now)
     }
 
-    fn pay(&mut self, payment: Payment, frame: &[u8], now: Millis)
-        ensures { self.new ≡ after_payment payment self.old frame.now now }
+    fn pay(&mut self, payment: Payment, frame: &Raw<'_>, now: Millis)
+        ensures { self.new ≡ after_payment payment self.old (raw_frame frame.now) now }
     {
         match payment {
             Payment::Greeting => self.greetings.spend(EACH_HEADER, now),
@@ -232,8 +229,8 @@ impl Conduct {
     }
 
     /// Notes a frame that is given.
-    fn note(&mut self, frame: &[u8], now: Millis)
-        ensures { self.new ≡ after_given self.old frame.now now }
+    fn note(&mut self, frame: &Raw<'_>, now: Millis)
+        ensures { self.new ≡ after_given self.old (raw_frame frame.now) now }
     {
         self.greets = self.is_greeting(frame);
         self.latest = now;
@@ -247,13 +244,10 @@ impl Conduct {
     }
 
     /// It is the header with which a greeting goes on.
-    fn is_greeting(&self, frame: &[u8]) -> bool
-        ensures { result ≡ goes_on self.now frame.now }
+    fn is_greeting(&self, frame: &Raw<'_>) -> bool
+        ensures { result ≡ goes_on self.now (raw_frame frame.now) }
     {
-        match split(frame) {
-            Parted::Whole(raw) => header_sequence(&raw) == Some(self.next_header),
-            Parted::Need(_) | Parted::Refused(_) => false,
-        }
+        header_sequence(frame) == Some(self.next_header)
     }
 }
 
@@ -269,20 +263,20 @@ fn manner_by(judgement: Judgement) -> Manner
 }
 
 /// What a frame costs that is no greeting's header.
-fn cost_of(frame: &[u8]) -> u64
-    ensures { result ≡ cost_of frame.now }
+fn cost_of(frame: &Raw<'_>) -> u64
+    ensures { result ≡ cost_of (raw_frame frame.now) }
 {
-    EACH_FRAME.saturating_add(frame.len() as u64)
+    EACH_FRAME.saturating_add(frame.length as u64)
 }
 
 /// The sequence of the header that a frame tells, if it tells one.
-fn header_sequence(raw: &Raw<'_>) -> Option<u32>
-    ensures { result ≡ header_in (raw_frame raw.now) }
+fn header_sequence(frame: &Raw<'_>) -> Option<u32>
+    ensures { result ≡ header_in (raw_frame frame.now) }
 {
-    if raw.kind != HEADER {
+    if frame.kind != HEADER {
         return None;
     }
-    let front = raw.body.get(..4)?;
+    let front = frame.body.get(..4)?;
     let mut bytes = [0; 4];
     bytes.copy_from_slice(front);
     Some(u32::from_be_bytes(bytes))

@@ -230,19 +230,20 @@ fn most_ahead(manner: Manner) -> usize
 fn grant(conduct: &mut Conduct, bytes: &[u8], most: u32, now: Millis) -> usize
     ensures granted { result ≡ (granted_of most conduct.old bytes.now now).count }
     ensures noted { conduct.new ≡ (granted_of most conduct.old bytes.now now).peer }
+    ensures within { result ≤ length bytes.now }
 {
     if most == 0 {
         return 0;
     }
-    let length = match split(bytes) {
-        Parted::Whole(raw) => raw.length.min(bytes.len()),
+    let frame = match split(bytes) {
+        Parted::Whole(frame) => frame,
         Parted::Need(_) => return 0,
         Parted::Refused(_) => return bytes.len(),
     };
-    if !conduct.gives(&bytes[..length], now) {
+    if !conduct.gives(&frame, now) {
         return 0;
     }
-    length + grant(conduct, &bytes[length..], most - 1, now)
+    frame.length + grant(conduct, &bytes[frame.length..], most - 1, now)
 }
 
 /// Reads the next bytes, and once some came waits for more.

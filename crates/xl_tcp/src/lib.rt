@@ -14,9 +14,11 @@ mod clock;
 mod conduct;
 mod connection;
 mod hub;
+mod laws;
 mod link;
 mod moments;
 
 pub use clock::SystemClock;
 pub use hub::TcpHub;
+pub use laws::law_of_constants;
 pub use link::TcpLink;

@@ -23,9 +23,9 @@ const PATIENCE: u64 = 900;
 /// A link to one member over TCP, with one connection at a time. What it gives and takes isn't told.
 ///
 /// An opening lets go of the connection before. It dials, and waits 900 milliseconds for the answer. Or it takes the
-/// first ready one of those who dialled in, or if none is ready the first that has sent nothing, and doesn't wait.
-/// Whoever else has dialled waits behind it. It answers NotYet if nobody is there: the call is refused, isn't answered
-/// in time or can't reach the machine, or nobody calls.
+/// first ready one of those who dialled in, or if none is ready the first that has sent nothing, and doesn't wait. One
+/// is ready that has sent a whole frame, or nothing for two seconds. Whoever else has dialled waits behind it. It answers
+/// NotYet if nobody is there: the call is refused, isn't answered in time or can't reach the machine, or nobody calls.
 ///
 /// A read waits a second for a byte, and then 50 milliseconds for more. A write waits until the system takes a byte, and
 /// reads ahead meanwhile what the peer says, for later reads; it fails if for 900 milliseconds no byte went either way.
@@ -35,8 +35,8 @@ const PATIENCE: u64 = 900;
 /// Anybody can call or answer, and the link knows no key. So it gives one frame of a peer, and waits until that is
 /// judged. It lets go of whoever forged a frame, and of one that has sent no whole frame for a minute, or none at all for
 /// five. While another is ready, a peer has 20 seconds from the latest fresh frame on, and two seconds at first; a
-/// greeting's headers count too, for five minutes. A read then says that no more bytes come. What comes faster than a member says things is
-/// held back: a read answers Idle until it may be given.
+/// greeting's headers count too, for five minutes. A read then says that no more bytes come. What comes faster than a
+/// member says things is held back: a read answers Idle until it may be given.
 #[derive(Drop)]
 pub struct TcpLink<R: Net> {
     alloc: Global,
@@ -80,7 +80,7 @@ impl<R: Net + Clock + Drop> TcpLink<R> {
             Address::Dialled(addr) => dial(&self.net, *addr)?,
             Address::Bound(listener) => {
                 self.callers.admit(listener, now)?;
-                next_of(&mut self.callers)?
+                next_of(&mut self.callers, now)?
             }
         };
         let left = self.greetings.unwrap_or(greetings(now));
@@ -117,14 +117,14 @@ impl<R: Net + Clock + Drop> TcpLink<R> {
         }
     }
 
-    /// Another has called, and shown a frame.
+    /// Another has called, and shown a frame or sent nothing for two seconds.
     fn is_any_ready(&mut self, now: Millis) -> io::Result<bool>
         ensures faults { self.new.faults ≡ self.old.faults }
     {
         if let Address::Bound(listener) = &self.address {
             self.callers.admit(listener, now)?;
         }
-        Ok(self.callers.is_any_ready())
+        Ok(self.callers.is_any_ready(now))
     }
 
     /// What has come meanwhile may be given.
@@ -185,8 +185,8 @@ impl<R: Net + Clock + Drop> Link for TcpLink<R> {
 }
 
 /// The next caller's stream, which waits from now on.
-fn next_of<S: OpenStream + Drop>(callers: &mut Callers<S>) -> io::Result<S> {
-    let Some(stream) = callers.next() else {
+fn next_of<S: OpenStream + Drop>(callers: &mut Callers<S>, now: Millis) -> io::Result<S> {
+    let Some(stream) = callers.next(now) else {
         return Err(io::Error::from(ErrorKind::WouldBlock));
     };
     stream.set_nonblocking(false)?;

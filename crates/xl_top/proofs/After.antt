@@ -18,7 +18,7 @@ use Rattle.xl_replay.specs.Replays.{report_of}
 use Rattle.xl_replay.proofs.Headline.{as_written}
 use Rattle.xl_show.specs.Soon.{soon_from, soon_in}
 use Rattle.xl_words.specs.declared.command.Telling.{Telling}
-use Rattle.xl_words.specs.declared.command.Telling.TheVariants.{Replay, Show, Lists, Merge, Audit, Flags, Negative, Gen, Help, Version}
+use Rattle.xl_words.specs.declared.command.Telling.TheVariants.{Replay, Show, Lists, Merge, Audit, Blame, Flags, Negative, Gen, Help, Version}
 use Rattle.xl_texts.specs.Promises.{Reads, on, to_what_is_found, nothing, Showing, always, if_some, if_read, IsAtItsEnd, LacksSome, LeavesOut, ShowsEnd}
 use Rattle.xl_texts.specs.Streams.{Streams}
 use Rattle.xl_texts.specs.Keeps.{Keeps}
@@ -239,6 +239,7 @@ quiet Show = refl
 quiet Lists = refl
 quiet Merge = refl
 quiet Audit = refl
+quiet Blame = refl
 quiet Flags = refl
 quiet Negative = refl
 quiet (Gen rounds) = refl

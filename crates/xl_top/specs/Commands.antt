@@ -11,6 +11,7 @@ use Rattle.xl_lines.specs.declared.machine.Verdict.TheVariants.{Good, Found, Ref
 use Rattle.xl_lines.specs.Rules.{closes}
 use Rattle.xl_texts.specs.Promises.{Promise, Reads, on, to_what_is_found, nothing, alone, at_once}
 use Rattle.xl_audit.specs.Auditing.{audit_promise}
+use Rattle.xl_blame.specs.Blaming.{blame_promise}
 use Rattle.xl_merge.specs.Merging.{merge_promise}
 use Rattle.xl_pairs.specs.Comparing.{lists_promise}
 use Rattle.xl_replay.specs.Replays.{report_promise}
@@ -20,7 +21,7 @@ use Rattle.xl_negative.specs.Promises.{negative_promise}
 use Rattle.xl_words.specs.declared.command.Command.{Command}
 use Rattle.xl_words.specs.declared.command.Command.TheVariants.{Node, Tell}
 use Rattle.xl_words.specs.declared.command.Telling.{Telling}
-use Rattle.xl_words.specs.declared.command.Telling.TheVariants.{Replay, Show, Lists, Merge, Audit, Flags, Negative, Gen, Help, Version}
+use Rattle.xl_words.specs.declared.command.Telling.TheVariants.{Replay, Show, Lists, Merge, Audit, Blame, Flags, Negative, Gen, Help, Version}
 use Rattle.xl_words.specs.Commands.{command_of}
 use Rattle.xl_words.specs.Help.{help_text, version_text}
 
@@ -45,6 +46,7 @@ promise_by Show = show_promise
 promise_by Lists = at_once lists_promise
 promise_by Merge = merge_promise
 promise_by Audit = audit_promise
+promise_by Blame = blame_promise
 promise_by Flags = flags_promise
 promise_by Negative = negative_promise
 promise_by (Gen rounds) = alone (summary (min rounds most_rounds))

@@ -6,7 +6,7 @@ use Rattle.xl_base.specs.declared.status.Status.TheVariants as status
 use Rattle.xl_store.specs.declared.entry.Entry.{Entry}
 use Rattle.xl_validator.specs.Ends.{AreSubmits, CompletesAt, EndsByTime, EndsFull, HasBeats, HasRunSo}
 
--- quiet: no call of the source, the sink, the keeper or the hub failed
+-- quiet: no call of the source, the sink, the keeper, the hub or the boards failed
 pub record EndsSo (input : Option (List ℕ)) (may_give : ℕ → Bool) (quiet : Type 0)
     (ended : Status) (journal : Option (List Entry)) : Type 0 where
   -- 0: the run has an end, which its last timer reached

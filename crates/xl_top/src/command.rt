@@ -12,6 +12,7 @@ ghost use Rattle.xl_texts.specs.Streams.{streams};
 ghost use Rattle.xl_top.specs.Undone.{IsUndone};
 ghost use Rattle.xl_workers.specs.Linking.{hub_seen};
 ghost use Rattle.xl_validator.specs.Ends.{IsQuiet};
+ghost use Rattle.xl_validator.specs.Tellings.{IsBoardRefused, Tells};
 ghost use Rattle.xl_validator.specs.Validators.{Judges, between};
 ghost use Rattle.xl_words.specs.Commands.{words_of};
 
@@ -19,6 +20,7 @@ use crate::running::write_text;
 use std::sync::Wait;
 use std::thread::Threads;
 use xl_base::Status;
+use xl_board::{Board, Boards};
 use xl_io::{Keeper, Sink, Source};
 use xl_links::{Clock, Gate, Hub};
 use xl_validator::{Ended, Host, validator};
@@ -27,8 +29,9 @@ use xl_words::{Command, Telling, WordsFault};
 /// The program: what the words of the command line ask is read from the input and written to the output.
 ///
 /// The words begin with the program's name. They may ask for `replay`, `node`, `show`, `lists`, `merge`, `audit`,
-/// `flags`, `negative` or `gen`, for help, or for the version. Keeper, hub, and the host's clock and gate are those of
-/// `node`. The keeper comes back, and so does the journal of the node's store, if one was opened and isn't written.
+/// `blame`, `flags`, `negative` or `gen`, for help, or for the version. Keeper, hub, boards, and the host's clock and gate
+/// are those of `node`. The keeper comes back, and so does the journal of the node's store, if one was opened and isn't
+/// written, and the board on which it told how it is, if its settings name one.
 pub fn top<
     W: Threads + Wait + Sync,
     I: Source,
@@ -37,6 +40,7 @@ pub fn top<
     H: Hub,
     G: Gate + Sync,
     C: Clock + Sync,
+    P: Boards,
 >(
     host: &Host<'_, W, G, C>,
     words: &[String],
@@ -44,7 +48,8 @@ pub fn top<
     output: &mut O,
     keeper: K,
     hub: &mut H,
-) -> Ended<K>
+    boards: &mut P,
+) -> Ended<K, P::D>
     // Words that ask nothing are refused, and only they, or memory runs out. Nothing is read or written then.
     ensures words { result.status ≡ Status.WordsRefused → asked_of (words_of words.now) ≡ None }
     ensures unasked { asked_of (words_of words.now) ≡ None
@@ -71,27 +76,39 @@ pub fn top<
     // Of `node`: its settings are judged at one moment that the clock may give. If they are refused no store is opened,
     // the keeper is asked nothing, and of their line a front is written. Others run a node that is opened at that moment,
     // or nothing is written and no save is asked. The journal of the node is handed back, or, if the settings ask for it
-    // and the run is over, written behind the reports. Else memory ran out before the clock was asked, and nothing was
-    // done.
+    // and the run is over, written behind the reports. Or the settings name a board that can't be opened, which refuses
+    // them. Else memory ran out before the clock was asked, and nothing was done.
     ensures node { asked_of (words_of words.now) ≡ Some Command.Node
         → Judges K.held K.saves K.faults K.load_gives K.save_gives
         (I.left input.old) (C.may_give host.now.clock.now) (H.gives hub.old)
         (between (hub_seen (H.faults hub.old) (H.asked hub.old)) (hub_seen (H.faults hub.new) (H.asked hub.new))
         (O.held output.old) (O.faults output.old) (O.held output.new) (O.faults output.new))
         output.old output.new keeper result.keeper result.status result.journal
+        ⊎ IsBoardRefused (I.left input.old) (C.may_give host.now.clock.now)
+        (Rose (P.faults boards.old) (P.faults boards.new))
+        ((result.keeper ≡ keeper) × (hub.new ≡ hub.old))
+        result.journal result.status (O.held output.old) (O.held output.new)
         ⊎ IsUndone result.status result.journal (input.new ≡ input.old) (output.new ≡ output.old)
         (result.keeper ≡ keeper) (hub.new ≡ hub.old) }
+    // What it told on the board of its settings, which shows how its core was at places of its history.
+    ensures told { asked_of (words_of words.now) ≡ Some Command.Node
+        → Tells P.D.Board.show_gives P.D.Board.stands (P.stands boards.old)
+        (Rose (P.faults boards.old) (P.faults boards.new)) (boards.new ≡ boards.old)
+        (I.left input.old) (C.may_give host.now.clock.now) result.journal result.status result.bulletin
+        ⊎ ((result.status ≡ Status.OutOfMemory) × (result.bulletin ≡ None) × (boards.new ≡ boards.old)) }
     // Its status says how its run ended.
     ensures ends { asked_of (words_of words.now) ≡ Some Command.Node
         → EndsSo (I.left input.old) (C.may_give host.now.clock.now)
         (IsQuiet (I.faults input.old) (I.faults input.new) × IsQuiet (O.faults output.old) (O.faults output.new)
-        × IsQuiet (K.faults keeper) (K.faults result.keeper) × IsQuiet (H.faults hub.old) (H.faults hub.new))
+        × IsQuiet (K.faults keeper) (K.faults result.keeper) × IsQuiet (H.faults hub.old) (H.faults hub.new)
+        × IsQuiet (P.faults boards.old) (P.faults boards.new))
         result.status result.journal }
     // A journal is that of a node.
     ensures node_ran { IfSome result.journal (λ _. asked_of (words_of words.now) ≡ Some Command.Node) }
-    // Every other command leaves keeper and hub.
+    // Every other command leaves keeper and hub, and opens no board.
     ensures others { asked_of (words_of words.now) ≢ Some Command.Node
-        → (result.keeper ≡ keeper) × (hub.new ≡ hub.old) × (result.journal ≡ None) }
+        → (result.keeper ≡ keeper) × (hub.new ≡ hub.old) × (result.journal ≡ None)
+        × (boards.new ≡ boards.old) × (result.bulletin ≡ None) }
     // A status that names a fault is answered only if a call of that kind failed.
     ensures cause { HasCause result.status (Rose (I.faults input.old) (I.faults input.new))
         (Rose (O.faults output.old) (O.faults output.new)) (Rose (K.faults keeper) (K.faults result.keeper))
@@ -102,7 +119,7 @@ pub fn top<
         Ok(Command::Tell(telling)) => {
             Ended::unopened(write_text(host.alloc, telling, input, output), keeper)
         }
-        Ok(Command::Node) => validator(host, input, output, keeper, hub),
+        Ok(Command::Node) => validator(host, input, output, keeper, hub, boards),
         Err(WordsFault::Refused) => Ended::unopened(Status::WordsRefused, keeper),
         Err(WordsFault::Memory) => Ended::unopened(Status::OutOfMemory, keeper),
     }

@@ -13,6 +13,7 @@ use crate::telling::{help, made, version};
 use std::alloc::Global;
 use xl_audit::Audit;
 use xl_base::Status;
+use xl_blame::Blame;
 use xl_io::{Sink, Source};
 use xl_lines::{Fault, Verdict};
 use xl_merge::Merge;
@@ -61,6 +62,7 @@ fn told<I: Source, O: Sink>(
         Telling::Lists => tell_at_once::<Lists, I, O>(alloc, input, output),
         Telling::Merge => tell::<Merge, I, O>(alloc, input, output),
         Telling::Audit => tell::<Audit, I, O>(alloc, input, output),
+        Telling::Blame => tell::<Blame, I, O>(alloc, input, output),
         Telling::Flags => tell::<Flags, I, O>(alloc, input, output),
         Telling::Negative => tell::<Negative, I, O>(alloc, input, output),
         Telling::Help => help(alloc, output),

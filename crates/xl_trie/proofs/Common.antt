@@ -31,7 +31,7 @@ pub use Rattle.xl_pool.specs.Pools.{Slot, Updates, empty_slot, get, live, slot_a
 pub use Rattle.xl_pool.specs.declared.name.Name.{Name}
 pub use Rattle.xl_trie.specs.Changing.{IsMerged, IsSplit, leaf_of}
 pub use Rattle.xl_trie.specs.Counted.{is_spot, spots}
-pub use Rattle.xl_trie.specs.Counting.{AreRecounted, IsChange, changed, with_counts}
+pub use Rattle.xl_trie.specs.Counting.{AreRecounted, IsChange, changed_count, with_counts}
 pub use Rattle.xl_trie.specs.Leading.{BeginsAt, EndsAt, GoesTo, IsBest, IsBestSoFar, NoneBegins, lead, leads}
 pub use Rattle.xl_trie.specs.Nodes.{AllHang, AllKids, Apart, Becomes, HasKids, In, IsBefore, IsKid, Leads, LeadsNow, hung_at, span_of, spans}
 pub use Rattle.xl_trie.specs.Places.{Enters, EntersAt, IsPlace}

@@ -1,6 +1,6 @@
 -- The votes of members, as one's comes or goes.
 use Rattle.std.proofs.Common.{◌≡◌, ℕ, ◌+◌, ◌==◌, Bool, true, false, not, cond, List, [], ◌∷◌, ◌++◌, refl, sym, ap, subst, ◌∙◌, arith, inl, inr}
-use Rattle.xl_trie.proofs.Common.{map, count_by, cases_Bool, eq-eqb, ne_eqb, Vote, has_voted, without, OneMore, OneFewer, changed, IsChange, In, Apart}
+use Rattle.xl_trie.proofs.Common.{map, count_by, cases_Bool, eq-eqb, ne_eqb, Vote, has_voted, without, OneMore, OneFewer, changed_count, IsChange, In, Apart}
 use Rattle.std.proofs.lemmas.List.{map_push}
 use Rattle.std.proofs.lemmas.List.Sums.{sum_by_push}
 use Rattle.xl_trie.proofs.Listing.{true_false, in_any, in_either, in_filter, in_map, to_map, count_cons}
@@ -53,7 +53,7 @@ count_without p (w ∷ votes) v (inr i) apart =
     let r = count_without p votes v i apart.1 in
     omega (arith, r, count_cons p w votes, count_cons p w (without votes v.member), ap (count_by p) rest)
 
-fewer_if : (b : Bool) (n k : ℕ) → k ≡ cond b 1 0 + n → n ≡ cond b (changed OneFewer k) k
+fewer_if : (b : Bool) (n k : ℕ) → k ≡ cond b 1 0 + n → n ≡ cond b (changed_count OneFewer k) k
 fewer_if b n k e = grind (arith, cases_Bool b, e)
 
 pub one_fewer : (votes : List Vote) (v : Vote) → In v votes → Apart (members votes) → IsChange OneFewer v votes (without votes v.member)

@@ -1,6 +1,6 @@
 -- Counts, as a vote comes or goes.
 use Rattle.std.proofs.Common.{◌≡◌, ◌≢◌, ◌⊎◌, ℕ, ◌<◌, ◌==◌, List, length, Option, Some, None, refl, sym, ap, subst, ◌∙◌, arith, inl, inr}
-use Rattle.xl_trie.proofs.Common.{cases_lt, cases_eq, cases_Bool, ne_eqb, eq-eqb, Header, Vote, AreLedgers, is_on_chain, tip_of, branch_of, Name, Span, Change, changed, with_counts, AreRecounted, IsChange, In, Becomes, AreLinked, HasFork, AreSpans, way, OnWay}
+use Rattle.xl_trie.proofs.Common.{cases_lt, cases_eq, cases_Bool, ne_eqb, eq-eqb, Header, Vote, AreLedgers, is_on_chain, tip_of, branch_of, Name, Span, Change, changed_count, with_counts, AreRecounted, IsChange, In, Becomes, AreLinked, HasFork, AreSpans, way, OnWay}
 use Rattle.xl_trie.proofs.Listing.{some_is, none_some, all_of}
 use Rattle.xl_trie.proofs.Relinking.{relinked}
 use Rattle.xl_trie.proofs.Trees.{one_name, on_self, front_of, on_through, same_ledger, root_short, nearest, known_vote, needed_on}
@@ -32,7 +32,7 @@ counts_keep S S' a s tip branch e B = record {
 
 -- ---- the counts of the spans above one
 
-module _ (hs : List Header) (ok : AreLedgers hs) (change : Change) (S S1 : Name → Option Span) (L : AreLinked hs S) (a : Name) (s : Span) (e : S a ≡ Some s) (B : Becomes S S1 a (Some (with_counts s s.tip (changed change s.branch)))) where
+module _ (hs : List Header) (ok : AreLedgers hs) (change : Change) (S S1 : Name → Option Span) (L : AreLinked hs S) (a : Name) (s : Span) (e : S a ≡ Some s) (B : Becomes S S1 a (Some (with_counts s s.tip (changed_count change s.branch)))) where
   -- the span itself, or one that is left as it was
   first_step : (b : Name) (u : Span) → S b ≡ Some u → ((b ≡ a) × (u ≡ s)) ⊎ ((b ≢ a) × (S1 b ≡ Some u))
   first_step b u f = grind (arith, one_name b a, B.others b)
@@ -48,7 +48,7 @@ module _ (hs : List Header) (ok : AreLedgers hs) (change : Change) (S S1 : Name 
   pub recounted_top : s.parent ≡ None → AreRecounted hs S S1 change s.ledger
   recounted_top top = record {
     each = λ b u f. elim (first_step b u f) [
-      | inl h ↦ (changed change s.branch, ap S1 h.0 ∙ B.changed ∙ ap (λ (x : Span). Some (with_counts x x.tip (changed change s.branch))) (sym h.1), inl (subst (λ (x : Span). OnWay hs x.ledger s.ledger) (sym h.1) (on_self hs s.ledger), ap (λ (x : Span). changed change x.branch) (sym h.1)))
+      | inl h ↦ (changed_count change s.branch, ap S1 h.0 ∙ B.changed ∙ ap (λ (x : Span). Some (with_counts x x.tip (changed_count change s.branch))) (sym h.1), inl (subst (λ (x : Span). OnWay hs x.ledger s.ledger) (sym h.1) (on_self hs s.ledger), ap (λ (x : Span). changed_count change x.branch) (sym h.1)))
       | inr h ↦ (u.branch, h.1, inr ((λ on. let lt = above_differs b u f on h.0 in elim (L.hangs a s e) [ inl root ↦ omega (arith, lt, root_short hs ok s.ledger root.1) | inr g ↦ none_some g.name (sym top ∙ g.is) ]), refl))
     ];
     back = back_one S1 (λ b t f. (t, f));
@@ -66,11 +66,11 @@ module _ (hs : List Header) (ok : AreLedgers hs) (change : Change) (S S1 : Name 
         record {
           each = λ b u f. elim (first_step b u f) [
             | inl i ↦
-                let r = R.each a (with_counts s s.tip (changed change s.branch)) B.changed in
+                let r = R.each a (with_counts s s.tip (changed_count change s.branch)) B.changed in
                 let off : OnWay hs s.ledger h.over.ledger → ⊥ = λ on. omega (arith, on.0, low) in
                 elim r.2 [
                   | inl wrong ↦ absurd (off wrong.0)
-                  | inr stays ↦ (r.0, ap S2 i.0 ∙ r.1 ∙ ap (λ (x : Span). Some (with_counts x x.tip r.0)) (sym i.1), inl (subst (λ (x : Span). OnWay hs x.ledger s.ledger) (sym i.1) (on_self hs s.ledger), stays.1 ∙ ap (λ (x : Span). changed change x.branch) (sym i.1)))
+                  | inr stays ↦ (r.0, ap S2 i.0 ∙ r.1 ∙ ap (λ (x : Span). Some (with_counts x x.tip r.0)) (sym i.1), inl (subst (λ (x : Span). OnWay hs x.ledger s.ledger) (sym i.1) (on_self hs s.ledger), stays.1 ∙ ap (λ (x : Span). changed_count change x.branch) (sym i.1)))
                 ]
             | inr i ↦
                 let r = R.each b u i.1 in
@@ -85,9 +85,9 @@ module _ (hs : List Header) (ok : AreLedgers hs) (change : Change) (S S1 : Name 
 
 -- ---- a vote for the ledger of a span comes or goes
 
-module _ (hs : List Header) (ok : AreLedgers hs) (change : Change) (v : Vote) (votes now : List Vote) (C : IsChange change v votes now) (S S1 S2 : Name → Option Span) (a : Name) (s : Span) (e : S a ≡ Some s) (for : s.ledger ≡ v.ledger) (V : AreSpans hs votes S (Some a)) (B : Becomes S S1 a (Some (with_counts s (changed change s.tip) s.branch))) (R : AreRecounted hs S1 S2 change s.ledger) where
+module _ (hs : List Header) (ok : AreLedgers hs) (change : Change) (v : Vote) (votes now : List Vote) (C : IsChange change v votes now) (S S1 S2 : Name → Option Span) (a : Name) (s : Span) (e : S a ≡ Some s) (for : s.ledger ≡ v.ledger) (V : AreSpans hs votes S (Some a)) (B : Becomes S S1 a (Some (with_counts s (changed_count change s.tip) s.branch))) (R : AreRecounted hs S1 S2 change s.ledger) where
   keep1 : SameLinks S S1
-  keep1 = counts_keep S S1 a s (changed change s.tip) s.branch e B
+  keep1 = counts_keep S S1 a s (changed_count change s.tip) s.branch e B
 
   -- what a span was, and which counts have changed
   record Was (b : Name) (t : Span) : Type 0 where
@@ -96,12 +96,12 @@ module _ (hs : List Header) (ok : AreLedgers hs) (change : Change) (v : Vote) (v
     pub ledger : span.ledger ≡ t.ledger
     pub first : span.first ≡ t.first
     pub parent : span.parent ≡ t.parent
-    pub tip : ((b ≡ a) × (t.tip ≡ changed change span.tip)) ⊎ ((b ≢ a) × (t.tip ≡ span.tip))
-    pub branch : (OnWay hs t.ledger s.ledger × (t.branch ≡ changed change span.branch)) ⊎ ((OnWay hs t.ledger s.ledger → ⊥) × (t.branch ≡ span.branch))
+    pub tip : ((b ≡ a) × (t.tip ≡ changed_count change span.tip)) ⊎ ((b ≢ a) × (t.tip ≡ span.tip))
+    pub branch : (OnWay hs t.ledger s.ledger × (t.branch ≡ changed_count change span.branch)) ⊎ ((OnWay hs t.ledger s.ledger → ⊥) × (t.branch ≡ span.branch))
 
   to_new : (b : Name) (u : Span) → S b ≡ Some u → (t : Span) × (S2 b ≡ Some t) × Was b t
   to_new b u f = elim (one_name b a) [
-    | inl same ↦ let r = R.each a (with_counts s (changed change s.tip) s.branch) B.changed in (with_counts s (changed change s.tip) r.0, ap S2 same ∙ r.1, grind (arith, r.2, same, e))
+    | inl same ↦ let r = R.each a (with_counts s (changed_count change s.tip) s.branch) B.changed in (with_counts s (changed_count change s.tip) r.0, ap S2 same ∙ r.1, grind (arith, r.2, same, e))
     | inr other ↦ let r = R.each b u (B.others b other ∙ f) in (with_counts u u.tip r.0, r.1, grind (arith, r.2, f, other))
   ]
 

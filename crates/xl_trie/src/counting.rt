@@ -2,7 +2,7 @@ ghost use Rattle.std.specs.Prelude.{◌≡◌, ◌+◌, ◌^◌, ◌<◌, List, 
 ghost use Rattle.xl_ledger.specs.Chains.{AreLedgers};
 ghost use Rattle.xl_ledger.specs.declared.vote.Vote.{Vote};
 ghost use Rattle.xl_pool.specs.declared.name.Name.{Name};
-ghost use Rattle.xl_trie.specs.Counting.{changed, with_counts, AreRecounted, IsChange};
+ghost use Rattle.xl_trie.specs.Counting.{changed_count, with_counts, AreRecounted, IsChange};
 ghost use Rattle.xl_trie.specs.Nodes.{spans, BecomesOf, AllKids};
 ghost use Rattle.xl_trie.specs.Tries.{AreLinked, IsTrieBut, IsRoot};
 ghost use Rattle.xl_trie.specs.Ways.{OnWay};
@@ -23,7 +23,7 @@ pub(crate) enum Change {
 impl Change {
     fn of(self, count: u32) -> u32
         requires { count + 1 < 2 ^ 32 }
-        ensures { result ≡ changed self count }
+        ensures { result ≡ changed_count self count }
     {
         match self {
             Change::OneMore => count + 1,

@@ -65,12 +65,14 @@ pub known_end : (e : RunEnd) → IsOfNode (status_of_end e)
 known_end (end.Ran beats last) = of_node (status_of_run beats last) (of_run beats last)
 known_end end.NetFault = tt
 known_end end.OutOfMemory = tt
+known_end end.TooFewThreads = tt
 known_end (end.StoreFull n) = tt
 
 pub keeps_no_fault : (e : RunEnd) → status_of_end e ≢ status.KeepFault
 keeps_no_fault (end.Ran beats last) = λ is. subst IsOfRun is (of_run beats last)
 keeps_no_fault end.NetFault = λ is. cc
 keeps_no_fault end.OutOfMemory = λ is. cc
+keeps_no_fault end.TooFewThreads = λ is. cc
 keeps_no_fault (end.StoreFull n) = λ is. cc
 
 written : (text : List ℕ) (old new : Output) (s : Status) → s ≡ status.WriteFault → IsOutput s text old new
@@ -83,6 +85,7 @@ write_by s d history done submits (end.Ran beats last) by is =
     written _ d.old_output d.new_output (status_of_run beats last) is by.1.written
 write_by s d history done submits end.NetFault by is = absurd cc
 write_by s d history done submits end.OutOfMemory by is = absurd cc
+write_by s d history done submits end.TooFewThreads by is = absurd cc
 write_by s d history done submits (end.StoreFull n) by is = absurd cc
 
 pub write_cause : (s : Setting) (d : Doing) (e : RunEnd) (history : List Entry) → NodeRun s d e history
@@ -94,6 +97,7 @@ net_by : (s : Setting) (d : Doing) (history : List Entry) (done : List TxId) (su
 net_by s d history done submits (end.Ran beats last) by is = absurd (subst IsOfRun is (of_run beats last))
 net_by s d history done submits end.NetFault by is = by.2
 net_by s d history done submits end.OutOfMemory by is = absurd cc
+net_by s d history done submits end.TooFewThreads by is = absurd cc
 net_by s d history done submits (end.StoreFull n) by is = absurd cc
 
 pub net_cause : (s : Setting) (d : Doing) (e : RunEnd) (history : List Entry) → NodeRun s d e history
@@ -120,6 +124,7 @@ later_by s d history done submits (end.Ran beats last) by over =
     all_written _ d.old_output d.new_output (status_of_run beats last) over by.1.written
 later_by s d history done submits end.NetFault by over = absurd cc
 later_by s d history done submits end.OutOfMemory by over = absurd cc
+later_by s d history done submits end.TooFewThreads by over = absurd cc
 later_by s d history done submits (end.StoreFull n) by over =
     let same : d.new_output.faults ≡ d.old_output.faults = ap (λ (o : Output). o.faults) by.1.silent in omega (arith, same)
 

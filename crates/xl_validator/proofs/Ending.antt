@@ -167,6 +167,7 @@ module _ (s : Setting) (d : Doing) (history : List Entry) where
       }
   timed done submits ends.NetFault sub by is = absurd cc
   timed done submits ends.OutOfMemory sub by is = absurd cc
+  timed done submits ends.TooFewThreads sub by is = absurd cc
   timed done submits (ends.StoreFull n) sub by is = absurd cc
 
   pub run_timed : (e : RunEnd) → NodeRun s d e history → status_of_end e ≡ status.Done → IsTimed
@@ -180,6 +181,7 @@ module _ (s : Setting) (d : Doing) (history : List Entry) where
       out.beating.stopped out.ending.full is
   full done submits ends.NetFault by is = absurd cc
   full done submits ends.OutOfMemory by is = absurd cc
+  full done submits ends.TooFewThreads by is = absurd cc
   full done submits (ends.StoreFull n) by is = by.3
 
   pub run_full : (e : RunEnd) → NodeRun s d e history → status_of_end e ≡ status.StoreFull → length H ≡ s.turns
@@ -195,6 +197,7 @@ module _ (s : Setting) (d : Doing) (history : List Entry) where
       subst (λ (cs : List Call). Paired (IsSubmit s.may_give) d.ids cs) (all_at H sub.calls places)
       (subst (λ (ids : List TxId). Paired (IsSubmit s.may_give) ids sub.calls) by.0 sub.each)
   submits_alone done submits ends.OutOfMemory sub by is = absurd cc
+  submits_alone done submits ends.TooFewThreads sub by is = absurd cc
   submits_alone done submits (ends.StoreFull n) sub by is = absurd cc
 
   pub run_submits : (e : RunEnd) → NodeRun s d e history → status_of_end e ≡ status.NetFault
@@ -207,6 +210,7 @@ module _ (s : Setting) (d : Doing) (history : List Entry) where
       beats_of s d.pulse (map member_in d.targets) history done submits ended last d.old_output d.new_output sub by.1
   beaten done submits ends.NetFault sub by = no_beats s d.pulse history done submits sub by.1.all
   beaten done submits ends.OutOfMemory sub by = no_beats s d.pulse history done submits sub by.1.all
+  beaten done submits ends.TooFewThreads sub by = no_beats s d.pulse history done submits sub by.1.all
   beaten done submits (ends.StoreFull n) sub by = no_beats s d.pulse history done submits sub by.1.all
 
   pub run_beaten : (e : RunEnd) → NodeRun s d e history → AreBeats d.pulse.publishing H

@@ -10,7 +10,7 @@ use Rattle.xl_store.specs.declared.entry.Entry.{Entry}
 use Rattle.xl_store.specs.Closing.{KeepsAll}
 use Rattle.xl_store.specs.Entries.{Leads}
 use Rattle.xl_workers.specs.declared.ends.RunEnd.{RunEnd}
-use Rattle.xl_workers.specs.Runs.{NodeRun, doing, status_of_end}
+use Rattle.xl_workers.specs.Runs.{NodeRun, doing_of, status_of_end}
 use Rattle.xl_workers.specs.Sharing.{setting}
 use Rattle.xl_settings.specs.declared.settings.Settings.{Settings}
 use Rattle.xl_validator.specs.ListsSet.{IsEverKeyed}
@@ -35,7 +35,7 @@ module _ {K O : Type 0}
       → end ≡ status_of_end e → new ≡ kept → journal ≡ Some history
       → IsLegal Leads start history
       → NodeRun (setting start task.turns may_give links)
-      (doing task.submits task.targets task.pulse
+      (doing_of task.submits task.targets task.pulse
       outside.old_hub outside.new_hub outside.old_output outside.new_output) e history
       → KeepsAll held_by saves_of faults_of save_gives start history old kept
       → length history ≤ task.turns
@@ -88,7 +88,7 @@ module _ {K O : Type 0}
       → MatchResult ran (λ r. journal ≡ Some (history_of r)) (λ _. journal ≡ None)
       → IfOk ran (λ r. Runs Leads start (history_of r) (core_of r))
       → IfOk ran (λ r. NodeRun (setting start task.turns may_give links)
-      (doing task.submits task.targets task.pulse
+      (doing_of task.submits task.targets task.pulse
       outside.old_hub outside.new_hub outside.old_output outside.new_output) (end_of r) (history_of r))
       → IfOk ran (λ r. KeepsAll held_by saves_of faults_of save_gives start (history_of r) old (kept_by r))
       → IfOk ran (λ r. length (history_of r) ≤ task.turns)

@@ -9,3 +9,4 @@ pub mod Timers
 pub mod Beating
 pub mod Ending
 pub mod Behind
+pub mod Told

@@ -50,11 +50,11 @@ any_ok : {P : Settings → Type 0} (r : Result Settings SettingsRefusal) → ((s
 any_ok (Ok s) p = p s
 any_ok (Err why) p = tt
 
-some_map : {A : Type 0} {P Q : A → Type 0} (o : Option A) → ((x : A) → P x → Q x) → IfSome o P → IfSome o Q
+pub some_map : {A : Type 0} {P Q : A → Type 0} (o : Option A) → ((x : A) → P x → Q x) → IfSome o P → IfSome o Q
 some_map None f p = tt
 some_map (Some x) f p = f x p
 
-some_any : {A : Type 0} {P : A → Type 0} (o : Option A) → ((x : A) → P x) → IfSome o P
+pub some_any : {A : Type 0} {P : A → Type 0} (o : Option A) → ((x : A) → P x) → IfSome o P
 some_any None p = tt
 some_any (Some x) p = p x
 

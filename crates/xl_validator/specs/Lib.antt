@@ -5,3 +5,4 @@ pub mod ListsSet
 pub mod Recordings
 pub mod Ends
 pub mod Validators
+pub mod Tellings

@@ -5,7 +5,7 @@ use Rattle.xl_links.specs.Ways.{Target}
 use Rattle.xl_tags.specs.Rings.{Ring, no_keys, with_key}
 use Rattle.xl_core.specs.declared.settings.Settings.{Settings as CoreSettings}
 use Rattle.xl_core.specs.Core.{Core, with_queues}
-use Rattle.xl_core.specs.Node.{opened}
+use Rattle.xl_core.specs.Node.{opened_node}
 use Rattle.xl_heartbeat.specs.declared.pulse.Pulse.{Pulse}
 use Rattle.xl_settings.specs.declared.settings.Settings.{Settings}
 use Rattle.xl_settings.specs.Peers.{PeerSetting}
@@ -29,7 +29,7 @@ core_settings s = record {
 
 -- the core at its opening, at a moment and with the number that was kept
 abbrev pub opening_core : Settings → ℕ → ℕ → Core
-opening_core s moment kept = with_queues (opened (core_settings s) moment kept)
+opening_core s moment kept = with_queues (opened_node (core_settings s) moment kept)
 
 -- what its heartbeat goes by: the list that was last set is at first the one that the core is opened with
 abbrev pub pulse_of : Settings → ℕ → Pulse

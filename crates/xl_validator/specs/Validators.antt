@@ -19,7 +19,7 @@ use Rattle.xl_settings.specs.Lines.{refusal_line}
 use Rattle.xl_settings.specs.Settings.{settings_of}
 use Rattle.xl_workers.specs.declared.ends.RunEnd.{RunEnd}
 use Rattle.xl_workers.specs.Linking.{HubSeen}
-use Rattle.xl_workers.specs.Runs.{NodeRun, doing, status_of_end}
+use Rattle.xl_workers.specs.Runs.{NodeRun, doing_of, status_of_end}
 use Rattle.xl_workers.specs.Sharing.{setting}
 use Rattle.xl_core.specs.Core.{Core}
 use Rattle.xl_validator.specs.Ends.{EndsByTime, EndsFull, HasBeats}
@@ -78,7 +78,7 @@ module _ {K : Type 0}
     pub run_end : RunEnd
     pub legal : IsLegal Leads start history
     pub run : NodeRun (setting start task.turns may_give links)
-        (doing task.submits task.targets task.pulse
+        (doing_of task.submits task.targets task.pulse
         outside.old_hub outside.new_hub outside.old_output outside.new_output) run_end history
     pub keeps : KeepsAll held_by saves_of faults_of save_gives start history old new
     pub limit : length history ≤ task.turns

@@ -7,19 +7,24 @@ ghost use Rattle.xl_workers.specs.Linking.{hub_seen};
 ghost use Rattle.xl_workers.specs.Runs.{status_of_end};
 ghost use Rattle.xl_validator.specs.Ends.{AreSubmits, CompletesAt, EndsByTime, EndsFull, HasBeats, HasRunSo, IsQuiet};
 ghost use Rattle.xl_validator.specs.Recordings.{is_written};
+ghost use Rattle.xl_validator.specs.Tellings.{IsBoardRefused, Tells, TellsSo};
 ghost use Rattle.xl_validator.specs.Validators.{HasRecorded, HasRun, IsRefused, Judges, between};
 ghost use Rattle.xl_validator.specs.Validators.{IsKnown, IsOfNode, IsUnopened};
 
 use crate::ended::Ended;
 use crate::preparing::{Judged, Prepared, prepare};
 use crate::recording::{recorded, recording_of};
+use crate::run::Run;
+use crate::telling::{bulletin_of, status_left, tell_end};
 use std::sync::Wait;
 use std::thread::Threads;
 use xl_base::Status;
+use xl_board::{Board, Boards, NotOpened};
+use xl_heartbeat::Bulletin;
 use xl_io::{Keeper, Sink, Source};
 use xl_links::{Clock, Gate, Hub};
 use xl_peers::Host;
-use xl_settings::{SettingsFault, SettingsRefusal, settings_from, write_refusal};
+use xl_settings::{KeyName, SettingsFault, SettingsRefusal, settings_from, write_refusal};
 use xl_store::{Closed, Entries, Spared};
 use xl_trie::Trie;
 use xl_workers::{Ran, node};
@@ -39,7 +44,7 @@ fn refuse<O: Sink>(output: &mut O, refusal: &SettingsRefusal) -> Status
 
 /// What a run leaves, without its core, and the entries that it kept. If there was no memory for the run's store, that is
 /// the keeper alone.
-fn left_by<K: Drop>(ran: Result<Ran<Trie, K>, Spared<Trie, K>>) -> (Ended<K>, Option<Entries>)
+fn left_by<K: Drop>(ran: Result<Ran<Trie, K>, Spared<Trie, K>>) -> (Run<K>, Option<Entries>)
     ensures status { MatchResult ran (λ r. result.0.status ≡ status_of_end r.end)
         (λ _. result.0.status ≡ Status.OutOfMemory) }
     ensures keeper { MatchResult ran (λ r. result.0.keeper ≡ r.closed.keeper) (λ s. result.0.keeper ≡ s.keeper) }
@@ -55,7 +60,7 @@ fn left_by<K: Drop>(ran: Result<Ran<Trie, K>, Spared<Trie, K>>) -> (Ended<K>, Op
                 journal,
                 entries,
             } = closed;
-            let ended = Ended {
+            let ended = Run {
                 status: end.status(),
                 keeper,
                 journal: Some(journal),
@@ -64,7 +69,7 @@ fn left_by<K: Drop>(ran: Result<Ran<Trie, K>, Spared<Trie, K>>) -> (Ended<K>, Op
         }
         Err(spared) => {
             let Spared { core: _, keeper } = spared;
-            (Ended::unopened(Status::OutOfMemory, keeper), None)
+            (Run::unopened(Status::OutOfMemory, keeper), None)
         }
     }
 }
@@ -77,7 +82,15 @@ fn start<
     H: Hub,
     G: Gate + Sync,
     C: Clock + Sync,
->(host: &Host<'_, W, G, C>, judged: Judged, output: &mut O, keeper: K, hub: &mut H) -> Ended<K>
+    D: Board + Drop + Send,
+>(
+    host: &Host<'_, W, G, C>,
+    judged: Judged,
+    output: &mut O,
+    keeper: K,
+    hub: &mut H,
+    bulletin: &mut Option<Bulletin<D>>,
+) -> Run<K>
     requires runnable { AreRunnable judged.settings }
     requires moment { judged.now ≤ greatest_millis }
     ensures ran { IfSome result.journal (λ history. (is_written judged.settings.journal result.status ≡ false)
@@ -99,18 +112,27 @@ fn start<
     ensures write { result.status ≡ Status.WriteFault → Rose (O.faults output.old) (O.faults output.new) }
     ensures keeper { result.status ≡ Status.KeepFault → Rose (K.faults keeper) (K.faults result.keeper) }
     ensures net { result.status ≡ Status.NetFault → Rose (H.faults hub.old) (H.faults hub.new) }
+    ensures told { TellsSo D.show_gives judged.settings judged.now result.journal result.status bulletin.old bulletin.new }
 {
     let mut keeper = keeper;
     let Ok(kept) = keeper.load() else {
-        return Ended::unopened(Status::KeepFault, keeper);
+        tell_end(bulletin, &None, Status::KeepFault);
+        return Run::unopened(Status::KeepFault, keeper);
     };
     let recording = recording_of(&judged.settings, judged.now, kept);
     match prepare(host.alloc, judged, kept) {
         Ok(Prepared { core, plan }) => {
-            let (ended, entries) = left_by(node(host, core, keeper, plan, hub, output));
-            recorded(host.alloc, recording, ended, entries, output)
+            let ran = node(host, core, keeper, plan, hub, output, bulletin);
+            let last = status_left(&ran);
+            let (left, entries) = left_by(ran);
+            let ended = recorded(host.alloc, recording, left, entries, output);
+            tell_end(bulletin, &last, ended.status);
+            ended
         }
-        Err(_) => Ended::unopened(Status::OutOfMemory, keeper),
+        Err(_) => {
+            tell_end(bulletin, &None, Status::OutOfMemory);
+            Run::unopened(Status::OutOfMemory, keeper)
+        }
     }
 }
 
@@ -120,6 +142,9 @@ fn start<
 /// and opens the core at it. It submits the ids, opens a link to each peer, and serves all peers beside the heartbeat
 /// until the run is over. The keeper comes back, and so does the journal of the node's store, which only contracts see,
 /// if one was opened.
+///
+/// If the settings name a board, it is opened before anything else is done, and the node tells there each ten seconds how
+/// it is, and at its end how that came. A board that can't be opened refuses the settings with the line of its key.
 ///
 /// If the settings ask for it, the journal of a run that ended by its time, or since its store had no turn left, isn't
 /// handed back: it is written behind the reports. A write that fails there ends the command with `WriteFault`, and
@@ -134,7 +159,15 @@ pub fn validator<
     H: Hub,
     G: Gate + Sync,
     C: Clock + Sync,
->(host: &Host<'_, W, G, C>, input: &mut I, output: &mut O, keeper: K, hub: &mut H) -> Ended<K>
+    P: Boards,
+>(
+    host: &Host<'_, W, G, C>,
+    input: &mut I,
+    output: &mut O,
+    keeper: K,
+    hub: &mut H,
+    boards: &mut P,
+) -> Ended<K, P::D>
     // Settings are judged at one moment that the clock may give. If they are refused no store is opened, keeper and hub
     // are asked nothing, and of their line a front is written. Others run a node that is opened at that moment, or nothing
     // is written, and no save and no link is asked. The journal of the node is handed back, or written behind what the
@@ -143,7 +176,16 @@ pub fn validator<
         (I.left input.old) (C.may_give host.now.clock.now) (H.gives hub.old)
         (between (hub_seen (H.faults hub.old) (H.asked hub.old)) (hub_seen (H.faults hub.new) (H.asked hub.new))
         (O.held output.old) (O.faults output.old) (O.held output.new) (O.faults output.new))
-        output.old output.new keeper result.keeper result.status result.journal }
+        output.old output.new keeper result.keeper result.status result.journal
+        ⊎ IsBoardRefused (I.left input.old) (C.may_give host.now.clock.now)
+        (Rose (P.faults boards.old) (P.faults boards.new))
+        ((result.keeper ≡ keeper) × (hub.new ≡ hub.old))
+        result.journal result.status (O.held output.old) (O.held output.new) }
+    // What was told on the board that the settings name: how the core was at places of the history, as it was due, and at
+    // the end how that came. Without one nothing is opened.
+    ensures told { Tells P.D.Board.show_gives P.D.Board.stands (P.stands boards.old)
+        (Rose (P.faults boards.old) (P.faults boards.new)) (boards.new ≡ boards.old)
+        (I.left input.old) (C.may_give host.now.clock.now) result.journal result.status result.bulletin }
     // Each status has its cause. An end by time, a failed network and a spent store are those of a node that ran.
     ensures known { IsKnown result.status }
     ensures read { result.status ≡ Status.ReadFault → Rose (I.faults input.old) (I.faults input.new) }
@@ -166,16 +208,38 @@ pub fn validator<
     // If nothing fails and turns are left, refused settings end it so, and others by time, unless memory runs out.
     ensures complete { IsQuiet (I.faults input.old) (I.faults input.new)
         → IsQuiet (O.faults output.old) (O.faults output.new) → IsQuiet (K.faults keeper) (K.faults result.keeper)
-        → IsQuiet (H.faults hub.old) (H.faults hub.new) → result.status ≢ Status.StoreFull
+        → IsQuiet (H.faults hub.old) (H.faults hub.new) → IsQuiet (P.faults boards.old) (P.faults boards.new)
+        → result.status ≢ Status.StoreFull
         → CompletesAt (I.left input.old) (C.may_give host.now.clock.now) result.status }
 {
     let now = host.clock.now();
     match settings_from(host.alloc, input, now) {
-        Ok(settings) => start(host, Judged { settings, now }, output, keeper, hub),
         Err(SettingsFault::Refused(refusal)) => {
             Ended::unopened(refuse(output, &refusal), keeper)
         }
         Err(SettingsFault::Read) => Ended::unopened(Status::ReadFault, keeper),
         Err(SettingsFault::OutOfMemory) => Ended::unopened(Status::OutOfMemory, keeper),
+        Ok(settings) => match bulletin_of(host.alloc, boards, &settings, now) {
+            Ok(mut bulletin) => {
+                let judged = Judged { settings, now };
+                let run = start(host, judged, output, keeper, hub, &mut bulletin);
+                let Run {
+                    status,
+                    keeper,
+                    journal,
+                } = run;
+                Ended {
+                    status,
+                    keeper,
+                    journal,
+                    bulletin,
+                }
+            }
+            Err(NotOpened::Failed) => {
+                let refusal = SettingsRefusal::Known(KeyName::Status);
+                Ended::unopened(refuse(output, &refusal), keeper)
+            }
+            Err(NotOpened::OutOfMemory) => Ended::unopened(Status::OutOfMemory, keeper),
+        },
     }
 }

@@ -5,6 +5,7 @@
 //! opened at that moment with the number that the keeper loaded. Its places are shared out among submits, heartbeat,
 //! workers and the last reports. The output is the lines of its reports, or the line of what is refused, and each
 //! status has its cause. If the settings ask for it, xl_audit writes that journal behind the reports instead.
+//! On the board that they name, it tells how the node is and how it ended.
 #![tactic(auto)]
 
 mod command;
@@ -13,6 +14,8 @@ mod ended;
 mod keys;
 mod preparing;
 mod recording;
+mod run;
+mod telling;
 
 pub use command::validator;
 pub use ended::Ended;

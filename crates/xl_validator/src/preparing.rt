@@ -55,6 +55,7 @@ pub(crate) fn prepare(alloc: Global, judged: Judged, kept: Seq) -> Result<Prepar
         speak,
         publishing,
         journal,
+        status: _,
     } = settings;
     let keys = keys_of(me, peers.as_slice());
     let pulse = Pulse {
@@ -66,10 +67,7 @@ pub(crate) fn prepare(alloc: Global, judged: Judged, kept: Seq) -> Result<Prepar
         publishing,
         list: list.copy(),
     };
-    let plan = match plan_of(alloc, turns, journal, submit, peers, pulse) {
-        Ok(plan) => plan,
-        Err(_) => return Err(OutOfMemory),
-    };
+    let plan = plan_of(alloc, turns, journal, submit, peers, pulse)?;
     let settings = xl_core::Settings {
         me,
         list,

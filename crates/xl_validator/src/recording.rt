@@ -15,8 +15,8 @@ ghost use Rattle.xl_validator.specs.Openings.{core_settings};
 ghost use Rattle.xl_validator.specs.Recordings.{IsWritten, is_over, is_written};
 ghost use Rattle.xl_validator.specs.Validators.{IsUnopened};
 
-use crate::ended::Ended;
 use crate::keys::keys_of;
+use crate::run::Run;
 use std::alloc::Global;
 use xl_audit::write_journal;
 use xl_base::{Millis, Seq, Status};
@@ -102,10 +102,10 @@ pub(crate) fn write_behind<O: Sink>(
 pub(crate) fn recorded<O: Sink, K: Drop>(
     alloc: Global,
     recording: Option<Recording>,
-    ended: Ended<K>,
+    ended: Run<K>,
     entries: Option<Entries>,
     sink: &mut O,
-) -> Ended<K>
+) -> Run<K>
     requires legal { IfSome recording (λ r. IfSome ended.journal (λ history.
         IsLegal Leads (start_of r.settings r.now r.kept) history)) }
     requires opened { ended.journal ≡ None → IsUnopened ended.status }
@@ -128,7 +128,7 @@ pub(crate) fn recorded<O: Sink, K: Drop>(
     if !is_over(ended.status) {
         return ended;
     }
-    let Ended {
+    let Run {
         status,
         keeper,
         journal: _,
@@ -136,7 +136,7 @@ pub(crate) fn recorded<O: Sink, K: Drop>(
     let Some(entries) = entries else {
         unreachable!()
     };
-    Ended {
+    Run {
         status: write_behind(alloc, recording, entries, status, sink),
         keeper,
         journal: None,

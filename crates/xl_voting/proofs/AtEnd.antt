@@ -17,13 +17,13 @@ use Rattle.xl_sched.specs.declared.refusal.SchedRefusal.{SchedRefusal}
 use Rattle.xl_sched.specs.declared.refusal.SchedRefusal.TheVariants.{Header, Limit}
 use Rattle.xl_sched.specs.Answers.{LineAnswer, passes, gives, refuses}
 use Rattle.xl_sched.specs.Favors.{after_favor, favor_line}
-use Rattle.xl_voting.specs.Tallying.{Tallying, tallied}
+use Rattle.xl_voting.specs.Tallying.{Tallying, tally_keeping}
 use Rattle.xl_voting.specs.Texts.{count_line}
-use Rattle.xl_voting.specs.Voting.{after_answer, after_favored, after_line, after_vote, ending, rules, silent}
+use Rattle.xl_voting.specs.Voting.{after_answer, after_favored, after_line, after_vote, told_at_end, rules, silent}
 
 -- NOTHING IS FOUND
 
-line_finds : (r : Running) (t : Tallying) (l : Line) → FindsNothing (after_line tallied r t l)
+line_finds : (r : Running) (t : Tallying) (l : Line) → FindsNothing (after_line tally_keeping r t l)
 line_finds r t (line.Limit limit) = tt
 line_finds r t (line.Speak version) = tt
 line_finds r t (line.Node me list validating) = tt
@@ -33,25 +33,25 @@ line_finds r t (line.Ledger name parent header) = tt
 line_finds r t (line.At at) = tt
 line_finds r t (line.Event e) = tt
 
-answer_finds : (r : Running) (t : Tallying) (a : LineAnswer) → FindsNothing (after_answer tallied r t a)
+answer_finds : (r : Running) (t : Tallying) (a : LineAnswer) → FindsNothing (after_answer tally_keeping r t a)
 answer_finds r t (passes reading) = tt
 answer_finds r t (gives l reading) = line_finds (knows r reading) t l
 answer_finds r t (refuses why) = tt
 
-vote_finds : (r : Running) (t : Tallying) (f : Favor) → FindsNothing (after_vote tallied r t f)
+vote_finds : (r : Running) (t : Tallying) (f : Favor) → FindsNothing (after_vote tally_keeping r t f)
 vote_finds r t f =
-    cond_both (nat_lt most_amendments (tallied.named t f.member f.fee f.ids)) (refuses_line (bad_line r.reading.lines (Limit (decimal most_amendments)))) (silent r (tallied.voted t f.member f.fee f.ids)) FindsNothing
+    cond_both (nat_lt most_amendments (tally_keeping.named t f.member f.fee f.ids)) (refuses_line (bad_line r.reading.lines (Limit (decimal most_amendments)))) (silent r (tally_keeping.voted t f.member f.fee f.ids)) FindsNothing
     (λ _. tt) (λ _. tt)
 
-favored_finds : (r : Running) (t : Tallying) (bytes : List ℕ) (x : Result (Option Favor) SchedRefusal) → FindsNothing (after_favored tallied r t bytes x)
+favored_finds : (r : Running) (t : Tallying) (bytes : List ℕ) (x : Result (Option Favor) SchedRefusal) → FindsNothing (after_favored tally_keeping r t bytes x)
 favored_finds r t bytes (Ok None) = answer_finds r t (answer_in r bytes)
 favored_finds r t bytes (Ok (Some f)) = vote_finds (knows r (after_favor r.reading (Some f))) t f
 favored_finds r t bytes (Err why) = tt
 
-closes_at_end : (r : Running) (t : Tallying) → (ending tallied r t).closed ≡ true
-closes_at_end r t = cond_both (r.reading.lines == 0) (closes (bad_line 1 (Header [])) Refused) (closes (count_line (tallied.count t)) Good) (λ told. told.closed ≡ true) (λ _. refl) (λ _. refl)
+closes_at_end : (r : Running) (t : Tallying) → (told_at_end tally_keeping r t).closed ≡ true
+closes_at_end r t = cond_both (r.reading.lines == 0) (closes (bad_line 1 (Header [])) Refused) (closes (count_line (tally_keeping.count t)) Good) (λ told. told.closed ≡ true) (λ _. refl) (λ _. refl)
 
-pub finds_at_end : FindsAtEnd (rules tallied)
+pub finds_at_end : FindsAtEnd (rules tally_keeping)
 finds_at_end = record {
   step = λ p bytes _. favored_finds p.running p.votes bytes (favor_line p.running.reading bytes);
   closing = λ p. closes_at_end p.running p.votes;
@@ -59,7 +59,7 @@ finds_at_end = record {
 
 -- A LAST TEXT
 
-line_aloud : (r : Running) (t : Tallying) (l : Line) → RefusesAloud (after_line tallied r t l)
+line_aloud : (r : Running) (t : Tallying) (l : Line) → RefusesAloud (after_line tally_keeping r t l)
 line_aloud r t (line.Limit limit) = tt
 line_aloud r t (line.Speak version) = tt
 line_aloud r t (line.Node me list validating) = tt
@@ -69,27 +69,27 @@ line_aloud r t (line.Ledger name parent header) = tt
 line_aloud r t (line.At at) = tt
 line_aloud r t (line.Event e) = tt
 
-answer_aloud : (r : Running) (t : Tallying) (a : LineAnswer) → RefusesAloud (after_answer tallied r t a)
+answer_aloud : (r : Running) (t : Tallying) (a : LineAnswer) → RefusesAloud (after_answer tally_keeping r t a)
 answer_aloud r t (passes reading) = tt
 answer_aloud r t (gives l reading) = line_aloud (knows r reading) t l
 answer_aloud r t (refuses why) = bad_some (r.reading.lines + 1) why
 
-vote_aloud : (r : Running) (t : Tallying) (f : Favor) → RefusesAloud (after_vote tallied r t f)
+vote_aloud : (r : Running) (t : Tallying) (f : Favor) → RefusesAloud (after_vote tally_keeping r t f)
 vote_aloud r t f =
-    cond_both (nat_lt most_amendments (tallied.named t f.member f.fee f.ids)) (refuses_line (bad_line r.reading.lines (Limit (decimal most_amendments)))) (silent r (tallied.voted t f.member f.fee f.ids)) RefusesAloud
+    cond_both (nat_lt most_amendments (tally_keeping.named t f.member f.fee f.ids)) (refuses_line (bad_line r.reading.lines (Limit (decimal most_amendments)))) (silent r (tally_keeping.voted t f.member f.fee f.ids)) RefusesAloud
     (λ _. bad_some r.reading.lines (Limit (decimal most_amendments))) (λ _. tt)
 
-favored_aloud : (r : Running) (t : Tallying) (bytes : List ℕ) (x : Result (Option Favor) SchedRefusal) → RefusesAloud (after_favored tallied r t bytes x)
+favored_aloud : (r : Running) (t : Tallying) (bytes : List ℕ) (x : Result (Option Favor) SchedRefusal) → RefusesAloud (after_favored tally_keeping r t bytes x)
 favored_aloud r t bytes (Ok None) = answer_aloud r t (answer_in r bytes)
 favored_aloud r t bytes (Ok (Some f)) = vote_aloud (knows r (after_favor r.reading (Some f))) t f
 favored_aloud r t bytes (Err why) = bad_some (r.reading.lines + 1) why
 
-ending_some : (r : Running) (t : Tallying) → 0 < length (ending tallied r t).text
+ending_some : (r : Running) (t : Tallying) → 0 < length (told_at_end tally_keeping r t).text
 ending_some r t =
-    cond_both (r.reading.lines == 0) (closes (bad_line 1 (Header [])) Refused) (closes (count_line (tallied.count t)) Good) (λ told. 0 < length told.text)
-    (λ _. bad_some 1 (Header [])) (λ _. line_some (codes "flags " ++ decimal (tallied.count t)))
+    cond_both (r.reading.lines == 0) (closes (bad_line 1 (Header [])) Refused) (closes (count_line (tally_keeping.count t)) Good) (λ told. 0 < length told.text)
+    (λ _. bad_some 1 (Header [])) (λ _. line_some (codes "flags " ++ decimal (tally_keeping.count t)))
 
-pub ends_aloud : EndsAloud (rules tallied)
+pub ends_aloud : EndsAloud (rules tally_keeping)
 ends_aloud = record {
   step = λ p bytes _. favored_aloud p.running p.votes bytes (favor_line p.running.reading bytes);
   overrun = λ p overrun. bad_some (p.running.reading.lines + 1) (beyond overrun);

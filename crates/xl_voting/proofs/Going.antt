@@ -10,14 +10,14 @@ use Rattle.xl_world.specs.Plans.{up_from}
 use Rattle.xl_world.specs.Schedule.{after_event, outcomes}
 use Rattle.xl_world.specs.World.{World}
 use Rattle.xl_voting.specs.Reports.{behind, events_said, outcomes_said, said_so}
-use Rattle.xl_voting.specs.Tallying.{Tallying, tallied}
+use Rattle.xl_voting.specs.Tallying.{Tallying, tally_keeping}
 use Rattle.xl_voting.proofs.Saying.{events_on, said_first}
 
 -- at first it was to go through all parts; now these are left
 pub record GoesOn (r0 : Running) (v0 : Tallying) (text0 : List ℕ) (parts : List Event) (r : Running) (v : Tallying) (text : List ℕ) (left : List Event) : Type 0 where
   pub running : r ≡ in_world r0 (world_of r)
   pub world : after_events (world_of r) left ≡ after_events (world_of r0) parts
-  pub said : behind text (events_said tallied r0.reading.names (world_of r) v left) ≡ behind text0 (events_said tallied r0.reading.names (world_of r0) v0 parts)
+  pub said : behind text (events_said tally_keeping r0.reading.names (world_of r) v left) ≡ behind text0 (events_said tally_keeping r0.reading.names (world_of r0) v0 parts)
 
 module _ (r0 : Running) (v0 : Tallying) (text0 : List ℕ) (parts : List Event) where
   pub begins : (r : Running) → r ≡ in_world r0 (world_of r0) → GoesOn r0 v0 text0 parts r v0 text0 parts
@@ -25,13 +25,13 @@ module _ (r0 : Running) (v0 : Tallying) (text0 : List ℕ) (parts : List Event) 
 
   module _ (r : Running) (v : Tallying) (text : List ℕ) where
     pub steps : (e : Event) (left : List Event) (r2 : Running) (v2 : Tallying) (text2 : List ℕ) → GoesOn r0 v0 text0 parts r v text (e ∷ left) → r2 ≡ happens r e →
-        said_so text2 v2 ≡ behind text (outcomes_said tallied r.reading.names (after_event (world_of r) e) v (outcomes (world_of r) e)) → GoesOn r0 v0 text0 parts r2 v2 text2 left
+        said_so text2 v2 ≡ behind text (outcomes_said tally_keeping r.reading.names (after_event (world_of r) e) v (outcomes (world_of r) e)) → GoesOn r0 v0 text0 parts r2 v2 text2 left
     steps e left r2 v2 text2 was is said =
         let next : World = after_event (world_of r) e in
         let names : r.reading.names ≡ r0.reading.names = ap (λ (x : Running). x.reading.names) was.running in
         let same : happens r e ≡ in_world r0 next = ap (λ (x : Running). in_world x next) was.running in
-        let on : said_so text2 v2 ≡ behind text (outcomes_said tallied r0.reading.names next v (outcomes (world_of r) e)) =
-        said ∙ ap (λ (ns : List Named). behind text (outcomes_said tallied ns next v (outcomes (world_of r) e))) names in
+        let on : said_so text2 v2 ≡ behind text (outcomes_said tally_keeping r0.reading.names next v (outcomes (world_of r) e)) =
+        said ∙ ap (λ (ns : List Named). behind text (outcomes_said tally_keeping ns next v (outcomes (world_of r) e))) names in
         subst (λ (x : Running). GoesOn r0 v0 text0 parts x v2 text2 left) (sym is)
         (record {
           running = same;
@@ -42,7 +42,7 @@ module _ (r0 : Running) (v0 : Tallying) (text0 : List ℕ) (parts : List Event) 
     pub world_ends : GoesOn r0 v0 text0 parts r v text [] → r ≡ in_world r0 (after_events (world_of r0) parts)
     world_ends was = was.running ∙ ap (in_world r0) was.world
 
-    pub said_ends : GoesOn r0 v0 text0 parts r v text [] → said_so text v ≡ behind text0 (events_said tallied r0.reading.names (world_of r0) v0 parts)
+    pub said_ends : GoesOn r0 v0 text0 parts r v text [] → said_so text v ≡ behind text0 (events_said tally_keeping r0.reading.names (world_of r0) v0 parts)
     said_ends was = said_first text v ∙ was.said
 
     -- the same parts are left
@@ -54,14 +54,14 @@ module _ (r0 : Running) (v0 : Tallying) (text0 : List ℕ) (parts : List Event) 
 module _ (r0 : Running) (v0 : Tallying) (text0 : List ℕ) (parts : List Event) (r : Running) (v : Tallying) (text : List ℕ) (e : Event) (was : GoesOn r0 v0 text0 parts r v text (e ∷ [])) where
   module _ (r2 : Running) (v2 : Tallying) (text2 : List ℕ) {X E : Type 0} where
     pub last_world : (result : Result X E) → OnOk result (r2 ≡ happens r e) →
-        OnOk result (said_so text2 v2 ≡ behind text (outcomes_said tallied r.reading.names (after_event (world_of r) e) v (outcomes (world_of r) e))) →
+        OnOk result (said_so text2 v2 ≡ behind text (outcomes_said tally_keeping r.reading.names (after_event (world_of r) e) v (outcomes (world_of r) e))) →
         OnOk result (r2 ≡ in_world r0 (after_events (world_of r0) parts))
     last_world (Ok x) is said = world_ends r0 v0 text0 parts r2 v2 text2 (steps r0 v0 text0 parts r v text e [] r2 v2 text2 was is said)
     last_world (Err x) is said = tt
 
     pub last_said : (result : Result X E) → OnOk result (r2 ≡ happens r e) →
-        OnOk result (said_so text2 v2 ≡ behind text (outcomes_said tallied r.reading.names (after_event (world_of r) e) v (outcomes (world_of r) e))) →
-        OnOk result (said_so text2 v2 ≡ behind text0 (events_said tallied r0.reading.names (world_of r0) v0 parts))
+        OnOk result (said_so text2 v2 ≡ behind text (outcomes_said tally_keeping r.reading.names (after_event (world_of r) e) v (outcomes (world_of r) e))) →
+        OnOk result (said_so text2 v2 ≡ behind text0 (events_said tally_keeping r0.reading.names (world_of r0) v0 parts))
     last_said (Ok x) is said = said_ends r0 v0 text0 parts r2 v2 text2 (steps r0 v0 text0 parts r v text e [] r2 v2 text2 was is said)
     last_said (Err x) is said = tt
 

@@ -31,10 +31,10 @@ use Rattle.xl_sched.specs.Numbers.{is_number, number_of, value_of}
 use Rattle.xl_sched.specs.Reading.{Reading}
 use Rattle.xl_sched.specs.Refusals.{◌>>=◌}
 use Rattle.xl_sched.specs.Tokens.{tokens}
-use Rattle.xl_voting.specs.Listing.{Listing, listed, nothing_listed}
-use Rattle.xl_voting.specs.Tallying.{Tallying, nothing_tallied, tallied}
+use Rattle.xl_voting.specs.Listing.{Listing, list_keeping, nothing_listed}
+use Rattle.xl_voting.specs.Tallying.{Tallying, nothing_tallied, tally_keeping}
 use Rattle.xl_voting.specs.Texts.{count_line}
-use Rattle.xl_voting.specs.Voting.{Voting, after_answer, after_favored, after_line, after_vote, ending, flags_of, flags_soon, nothing_read, rules, silent}
+use Rattle.xl_voting.specs.Voting.{Voting, after_answer, after_favored, after_line, after_vote, told_at_end, flags_of, flags_soon, nothing_read, rules, silent}
 use Rattle.xl_voting.proofs.StandingFor.{StandsFor, as_many, first_stands, voted_stands}
 use Rattle.xl_voting.proofs.Telling.{event_same}
 
@@ -97,7 +97,7 @@ module _ (r : Running) (t : Tallying) (l : Listing) (is : StandsFor t l) where
   silent_alike : (next : Running) → IsSound next → AreAlike Like (silent next t) (silent next l)
   silent_alike next sound = (refl, record { running = refl; sound = sound; votes = is })
 
-  line_alike : IsSound r → (names : List Named) (read : Line) → Declares names read → AreAlike Like (after_line tallied r t read) (after_line listed r l read)
+  line_alike : IsSound r → (names : List Named) (read : Line) → Declares names read → AreAlike Like (after_line tally_keeping r t read) (after_line list_keeping r l read)
   line_alike sound names (line.Limit limit) declared = silent_alike _ (declares_sound r names (line.Limit limit) declared sound)
   line_alike sound names (line.Speak version) declared = silent_alike _ (declares_sound r names (line.Speak version) declared sound)
   line_alike sound names (line.Node me list validating) declared = silent_alike _ (declares_sound r names (line.Node me list validating) declared sound)
@@ -109,25 +109,25 @@ module _ (r : Running) (t : Tallying) (l : Listing) (is : StandsFor t l) where
       let same = event_same r.reading.names (world_of r) sound.is_run t l is e declared in
       (same.text, record { running = refl; sound = happens_sound r e declared sound; votes = same.votes })
 
-  vote_alike : IsSound r → (f : Favor) → IsMember f.member → AreAlike Like (after_vote tallied r t f) (after_vote listed r l f)
+  vote_alike : IsSound r → (f : Favor) → IsMember f.member → AreAlike Like (after_vote tally_keeping r t f) (after_vote list_keeping r l f)
   vote_alike sound f member = by _ _ (ap (λ (n : ℕ). nat_lt most_amendments n) (as_many t l is f.member f.fee f.ids member))
     where
       by : (a b : Bool) → a ≡ b →
           AreAlike Like
-          (if a then refuses_line (bad_line r.reading.lines (Limit (decimal most_amendments))) else silent r (tallied.voted t f.member f.fee f.ids))
-          (if b then refuses_line (bad_line r.reading.lines (Limit (decimal most_amendments))) else silent r (listed.voted l f.member f.fee f.ids))
+          (if a then refuses_line (bad_line r.reading.lines (Limit (decimal most_amendments))) else silent r (tally_keeping.voted t f.member f.fee f.ids))
+          (if b then refuses_line (bad_line r.reading.lines (Limit (decimal most_amendments))) else silent r (list_keeping.voted l f.member f.fee f.ids))
       by true true same = refl
       by false false same = (refl, record { running = refl; sound = sound; votes = voted_stands t l is f.member f.fee f.ids member })
       by true false same = absurd cc
       by false true same = absurd cc
 
-answer_alike : (r : Running) (t : Tallying) (l : Listing) → StandsFor t l → IsSound r → (a : LineAnswer) → AnswerDeclares r.reading.names a → AreAlike Like (after_answer tallied r t a) (after_answer listed r l a)
+answer_alike : (r : Running) (t : Tallying) (l : Listing) → StandsFor t l → IsSound r → (a : LineAnswer) → AnswerDeclares r.reading.names a → AreAlike Like (after_answer tally_keeping r t a) (after_answer list_keeping r l a)
 answer_alike r t l is sound (passes reading) declared = silent_alike r t l is (knows r reading) (knows_sound r reading sound)
 answer_alike r t l is sound (gives read reading) declared = line_alike (knows r reading) t l is (knows_sound r reading sound) r.reading.names read declared
 answer_alike r t l is sound (refuses why) declared = refl
 
 favored_alike : (r : Running) (t : Tallying) (l : Listing) → StandsFor t l → IsSound r → (bytes : List ℕ) (x : Result (Option Favor) SchedRefusal) → IfVotes x →
-    AreAlike Like (after_favored tallied r t bytes x) (after_favored listed r l bytes x)
+    AreAlike Like (after_favored tally_keeping r t bytes x) (after_favored list_keeping r l bytes x)
 favored_alike r t l is sound bytes (Ok None) votes = answer_alike r t l is sound (answer_in r bytes) (reading_declares r.reading (length (world_of r).sent) bytes)
 favored_alike r t l is sound bytes (Ok (Some f)) votes =
     let reading : Reading = after_favor r.reading (Some f) in
@@ -136,32 +136,32 @@ favored_alike r t l is sound bytes (Err why) votes = refl
 
 -- THE WHOLE
 
-step_alike : (p : Voting Tallying) (q : Voting Listing) (bytes : List ℕ) (has_ended : Bool) → Like p q → AreAlike Like ((rules tallied).step p bytes has_ended) ((rules listed).step q bytes has_ended)
+step_alike : (p : Voting Tallying) (q : Voting Listing) (bytes : List ℕ) (has_ended : Bool) → Like p q → AreAlike Like ((rules tally_keeping).step p bytes has_ended) ((rules list_keeping).step q bytes has_ended)
 step_alike p q bytes has_ended like =
-    subst (λ (r : Running). AreAlike Like ((rules tallied).step p bytes has_ended) (after_favored listed r q.votes bytes (favor_line r.reading bytes))) like.running
+    subst (λ (r : Running). AreAlike Like ((rules tally_keeping).step p bytes has_ended) (after_favored list_keeping r q.votes bytes (favor_line r.reading bytes))) like.running
     (favored_alike p.running p.votes q.votes like.votes like.sound bytes (favor_line p.running.reading bytes) (line_votes p.running.reading bytes))
 
-closing_alike : (p : Voting Tallying) (q : Voting Listing) → Like p q → (rules tallied).closing p ≡ (rules listed).closing q
+closing_alike : (p : Voting Tallying) (q : Voting Listing) → Like p q → (rules tally_keeping).closing p ≡ (rules list_keeping).closing q
 closing_alike p q like =
-    ap (λ (r : Running). ending tallied r p.votes) like.running
+    ap (λ (r : Running). told_at_end tally_keeping r p.votes) like.running
     ∙ ap (λ (n : ℕ). if q.running.reading.lines == 0 then closes (bad_line 1 (Header [])) Refused else closes (count_line n) Good) like.votes.count
 
-tells_alike : DoAlike Like (rules tallied) (rules listed)
+tells_alike : DoAlike Like (rules tally_keeping) (rules list_keeping)
 tells_alike = record {
   step = step_alike;
   overrun = λ p q overrun like. ap (λ (r : Running). bad_line (r.reading.lines + 1) (beyond overrun)) like.running;
   closing = closing_alike;
 }
 
-closed_alike : DoAlike Like (unclosed (rules tallied)) (unclosed (rules listed))
+closed_alike : DoAlike Like (unclosed (rules tally_keeping)) (unclosed (rules list_keeping))
 closed_alike = record { step = step_alike; overrun = tells_alike.overrun; closing = λ p q like. refl }
 
-pub soon_same : (bytes : List ℕ) → told_soon limits (rules tallied) (nothing_read nothing_tallied) bytes ≡ flags_soon bytes
+pub soon_same : (bytes : List ℕ) → told_soon limits (rules tally_keeping) (nothing_read nothing_tallied) bytes ≡ flags_soon bytes
 soon_same bytes =
-    told_alike Like (unclosed (rules tallied)) (unclosed (rules listed)) closed_alike limits limits.lines (nothing_read nothing_tallied) (nothing_read nothing_listed) (answerable limits (lines_of bytes))
+    told_alike Like (unclosed (rules tally_keeping)) (unclosed (rules list_keeping)) closed_alike limits limits.lines (nothing_read nothing_tallied) (nothing_read nothing_listed) (answerable limits (lines_of bytes))
     (record { running = refl; sound = first_sound; votes = first_stands })
 
-pub told_same : (bytes : List ℕ) → told_of limits (rules tallied) (nothing_read nothing_tallied) bytes ≡ flags_of bytes
+pub told_same : (bytes : List ℕ) → told_of limits (rules tally_keeping) (nothing_read nothing_tallied) bytes ≡ flags_of bytes
 told_same bytes =
-    told_alike Like (rules tallied) (rules listed) tells_alike limits limits.lines (nothing_read nothing_tallied) (nothing_read nothing_listed) (lines_of bytes)
+    told_alike Like (rules tally_keeping) (rules list_keeping) tells_alike limits limits.lines (nothing_read nothing_tallied) (nothing_read nothing_listed) (lines_of bytes)
     (record { running = refl; sound = first_sound; votes = first_stands })

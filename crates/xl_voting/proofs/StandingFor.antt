@@ -9,12 +9,12 @@ use Rattle.xl_flags.specs.Kept.{Remembers}
 use Rattle.xl_flags.proofs.Favoring.{so_many, remembers_vote}
 use Rattle.xl_flags.proofs.Opening.{remembers_nothing}
 use Rattle.xl_flags.proofs.Remembering.{IsMember, lines_are, remembers_report}
-use Rattle.xl_voting.specs.Listing.{Flag, Listing, last_of, listed, nothing_listed}
-use Rattle.xl_voting.specs.Tallying.{Tallying, nothing_tallied, tallied}
+use Rattle.xl_voting.specs.Listing.{Flag, Listing, last_of, list_keeping, nothing_listed}
+use Rattle.xl_voting.specs.Tallying.{Tallying, nothing_tallied, tally_keeping}
 
 pub record StandsFor (t : Tallying) (l : Listing) : Type 0 where
   pub remembers : Remembers t.kept l.past
-  pub last : (i : ℕ) → 1 ≤ i → i ≤ 64 → tallied.last t i ≡ listed.last l i
+  pub last : (i : ℕ) → 1 ≤ i → i ≤ 64 → tally_keeping.last t i ≡ list_keeping.last l i
   pub long : length t.last ≡ 64
   pub count : t.count ≡ length l.flags
 
@@ -39,10 +39,10 @@ first_stands = record {
 -- A VOTE MORE
 
 module _ (t : Tallying) (l : Listing) (is : StandsFor t l) (m fee : ℕ) (ids : List TxId) (member : IsMember m) where
-  pub as_many : tallied.named t m fee ids ≡ listed.named l m fee ids
+  pub as_many : tally_keeping.named t m fee ids ≡ list_keeping.named l m fee ids
   as_many = so_many l.past m fee ids member.0 member.1 t.kept is.remembers
 
-  pub voted_stands : StandsFor (tallied.voted t m fee ids) (listed.voted l m fee ids)
+  pub voted_stands : StandsFor (tally_keeping.voted t m fee ids) (list_keeping.voted l m fee ids)
   voted_stands = record {
     remembers = remembers_vote l.past m fee ids member.0 member.1 t.kept is.remembers;
     last = is.last;
@@ -56,7 +56,7 @@ one_more : (n : ℕ) → n + 1 ≡ suc n
 one_more n = omega arith
 
 module _ (t : Tallying) (l : Listing) (is : StandsFor t l) (i s close : ℕ) (counted : List ℕ) (member : IsMember i) (members : All IsMember counted) where
-  pub same_news : tallied.news t i s close counted ≡ listed.news l i s close counted
+  pub same_news : tally_keeping.news t i s close counted ≡ list_keeping.news l i s close counted
   same_news = lines_are l.past i close counted member members t.kept is.remembers s
 
   last_so : (j : ℕ) → 1 ≤ j → j ≤ 64 → get_or (set t.last (i - 1) s) (j - 1) 0 ≡ last_of (record { node = i; seq = s } ∷ l.flags) j
@@ -74,7 +74,7 @@ module _ (t : Tallying) (l : Listing) (is : StandsFor t l) (i s close : ℕ) (co
             ∙ ap (λ (o : Option Flag). unwrap_or (option_map (λ f. f.seq) o) 0) (sym (cond-false (i == j) (Some (record { node = i; seq = s })) (find (λ f. f.node == j) l.flags) (grind (arith, nat_tests))))
       ]
 
-  pub reported_stands : StandsFor (tallied.reported t i s close counted) (listed.reported l i s close counted)
+  pub reported_stands : StandsFor (tally_keeping.reported t i s close counted) (list_keeping.reported l i s close counted)
   reported_stands = record {
     remembers = remembers_report l.past i close counted member members t.kept is.remembers;
     last = last_so;

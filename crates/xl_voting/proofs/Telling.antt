@@ -21,9 +21,9 @@ use Rattle.xl_world.specs.World.{World, core_in, place_at}
 use Rattle.xl_world.proofs.Fitting.{steps_fit}
 use Rattle.xl_world.proofs.Reporters.{placed_member}
 use Rattle.xl_world.proofs.Runs.{run_on}
-use Rattle.xl_voting.specs.Listing.{Listing, listed}
+use Rattle.xl_voting.specs.Listing.{Listing, list_keeping}
 use Rattle.xl_voting.specs.Reports.{Said, silent, behind, close_of, counted_by, is_due, flag_said, known_said, core_said, report_said, outcome_said, outcomes_said, events_said, event_said}
-use Rattle.xl_voting.specs.Tallying.{Tallying, tallied}
+use Rattle.xl_voting.specs.Tallying.{Tallying, tally_keeping}
 use Rattle.xl_voting.specs.Texts.{flag_lines}
 use Rattle.xl_voting.proofs.StandingFor.{StandsFor, reported_stands, same_news}
 use Rattle.xl_voting.proofs.ValidLists.{placed_valid}
@@ -55,18 +55,18 @@ core_counting w is i c (Some p) at there =
 
 module _ (names : List Named) (t : Tallying) (l : Listing) (is : StandsFor t l) where
   flag_same : (i s close : ℕ) (counted : List ℕ) → IsMember i → All IsMember counted →
-      SaysSame (flag_said tallied names t i s close counted) (flag_said listed names l i s close counted)
+      SaysSame (flag_said tally_keeping names t i s close counted) (flag_said list_keeping names l i s close counted)
   flag_same i s close counted member members = record {
     text = ap (flag_lines names) (same_news t l is i s close counted member members);
     votes = reported_stands t l is i s close counted member members;
   }
 
-  known_same : (i s : ℕ) (id : LedgerId) (c : Core) → IsCounting i c → (o : Option ℕ) → SaysSame (known_said tallied names t i s id c o) (known_said listed names l i s id c o)
+  known_same : (i s : ℕ) (id : LedgerId) (c : Core) → IsCounting i c → (o : Option ℕ) → SaysSame (known_said tally_keeping names t i s id c o) (known_said list_keeping names l i s id c o)
   known_same i s id c counting None = silent_same t l is
   known_same i s id c counting (Some close) =
       flag_same i s close (counted_by c s id) counting.member (All-filter (λ m. is_full_of s id (current_of c.node.rows m)) IsMember c.node.list.members counting.members)
 
-  due_same : (i s : ℕ) → IsMember i → is_due tallied t i s ≡ is_due listed l i s
+  due_same : (i s : ℕ) → IsMember i → is_due tally_keeping t i s ≡ is_due list_keeping l i s
   due_same i s member = ap (λ (n : ℕ). s % 256 == 0 && nat_lt n s) (is.last i member.0 member.1)
 
   nothing_same : (a b : Bool) → SaysSame (if a then silent t else silent t) (if b then silent l else silent l)
@@ -76,24 +76,24 @@ module _ (names : List Named) (t : Tallying) (l : Listing) (is : StandsFor t l) 
   nothing_same false false = silent_same t l is
 
   core_same : (i s : ℕ) (id : LedgerId) (c : Core) → IsCounting i c → (a b : Bool) → a ≡ b →
-      SaysSame (if a then core_said tallied names t i s id (Some c) else silent t) (if b then core_said listed names l i s id (Some c) else silent l)
+      SaysSame (if a then core_said tally_keeping names t i s id (Some c) else silent t) (if b then core_said list_keeping names l i s id (Some c) else silent l)
   core_same i s id c counting true true same = known_same i s id c counting (close_of c id)
   core_same i s id c counting false false same = silent_same t l is
   core_same i s id c counting true false same = absurd cc
   core_same i s id c counting false true same = absurd cc
 
   module _ (w : World) (is_run : IsRun w) where
-    report_same : (i s : ℕ) (id : LedgerId) → SaysSame (report_said tallied names w t i s id) (report_said listed names w l i s id)
+    report_same : (i s : ℕ) (id : LedgerId) → SaysSame (report_said tally_keeping names w t i s id) (report_said list_keeping names w l i s id)
     report_same i s id = by (core_in w i) refl
       where
         by : (o : Option Core) → core_in w i ≡ o →
-            SaysSame (if is_due tallied t i s then core_said tallied names t i s id o else silent t) (if is_due listed l i s then core_said listed names l i s id o else silent l)
-        by None there = nothing_same (is_due tallied t i s) (is_due listed l i s)
+            SaysSame (if is_due tally_keeping t i s then core_said tally_keeping names t i s id o else silent t) (if is_due list_keeping l i s then core_said list_keeping names l i s id o else silent l)
+        by None there = nothing_same (is_due tally_keeping t i s) (is_due list_keeping l i s)
         by (Some c) there =
             let counting : IsCounting i c = core_counting w is_run i c (place_at i w.places) refl there in
-            core_same i s id c counting (is_due tallied t i s) (is_due listed l i s) (due_same i s counting.member)
+            core_same i s id c counting (is_due tally_keeping t i s) (is_due list_keeping l i s) (due_same i s counting.member)
 
-    outcome_same : (o : Outcome) → SaysSame (outcome_said tallied names w t o) (outcome_said listed names w l o)
+    outcome_same : (o : Outcome) → SaysSame (outcome_said tally_keeping names w t o) (outcome_said list_keeping names w l o)
     outcome_same (Switched node seq id) = silent_same t l is
     outcome_same (Built node seq id issued) = silent_same t l is
     outcome_same (Refused node refusal) = silent_same t l is
@@ -110,12 +110,12 @@ behind_same a b x y first then_same = record {
 }
 
 pub outcomes_same : (names : List Named) (w : World) → IsRun w → (t : Tallying) (l : Listing) → StandsFor t l → (os : List Outcome) →
-    SaysSame (outcomes_said tallied names w t os) (outcomes_said listed names w l os)
+    SaysSame (outcomes_said tally_keeping names w t os) (outcomes_said list_keeping names w l os)
 outcomes_same names w is_run t l is [] = silent_same t l is
 outcomes_same names w is_run t l is (o ∷ os) =
-    let first : SaysSame (outcome_said tallied names w t o) (outcome_said listed names w l o) = outcome_same names t l is w is_run o in
-    behind_same (outcome_said tallied names w t o) (outcome_said listed names w l o) _ _ first
-    (outcomes_same names w is_run (outcome_said tallied names w t o).votes (outcome_said listed names w l o).votes first.votes os)
+    let first : SaysSame (outcome_said tally_keeping names w t o) (outcome_said list_keeping names w l o) = outcome_same names t l is w is_run o in
+    behind_same (outcome_said tally_keeping names w t o) (outcome_said list_keeping names w l o) _ _ first
+    (outcomes_same names w is_run (outcome_said tally_keeping names w t o).votes (outcome_said list_keeping names w l o).votes first.votes os)
 
 abbrev Plausible : Event → Type 0
 Plausible e = IsPlausible e.what
@@ -124,12 +124,12 @@ after_run : (w : World) (e : Event) → IsPlausible e.what → IsRun w → IsRun
 after_run w e plausible is_run = run_on w (after_event w e) (steps_of w e) refl (steps_fit w e.at e.what plausible) is_run
 
 events_same : (names : List Named) (w : World) → IsRun w → (t : Tallying) (l : Listing) → StandsFor t l → (es : List Event) → All Plausible es →
-    SaysSame (events_said tallied names w t es) (events_said listed names w l es)
+    SaysSame (events_said tally_keeping names w t es) (events_said list_keeping names w l es)
 events_same names w is_run t l is [] plausible = silent_same t l is
 events_same names w is_run t l is (e ∷ es) plausible =
     let next : IsRun (after_event w e) = after_run w e (All-head Plausible e es plausible) is_run in
-    let a : Said Tallying = outcomes_said tallied names (after_event w e) t (outcomes w e) in
-    let b : Said Listing = outcomes_said listed names (after_event w e) l (outcomes w e) in
+    let a : Said Tallying = outcomes_said tally_keeping names (after_event w e) t (outcomes w e) in
+    let b : Said Listing = outcomes_said list_keeping names (after_event w e) l (outcomes w e) in
     let first : SaysSame a b = outcomes_same names (after_event w e) next t l is (outcomes w e) in
     behind_same a b _ _ first (events_same names (after_event w e) next a.votes b.votes first.votes es (All-tail Plausible e es plausible))
 
@@ -162,5 +162,5 @@ parts_plausible w at (what.List node list) plausible = one_plausible _ plausible
 parts_plausible w at (what.Heard node) plausible = one_plausible _ plausible
 
 pub event_same : (names : List Named) (w : World) → IsRun w → (t : Tallying) (l : Listing) → StandsFor t l → (e : Event) → IsPlausible e.what →
-    SaysSame (event_said tallied names w t e) (event_said listed names w l e)
+    SaysSame (event_said tally_keeping names w t e) (event_said list_keeping names w l e)
 event_same names w is_run t l is e plausible = events_same names w is_run t l is (parts_of w e) (parts_plausible w e.at e.what plausible)

@@ -15,7 +15,7 @@ use Rattle.xl_world.specs.declared.plan.PlanNode.{PlanNode}
 use Rattle.xl_world.specs.Disk.{held_by}
 use Rattle.xl_world.specs.Plans.{AreDeclared, IsDeclared, Shared}
 use Rattle.xl_world.specs.Starts.{IsRun, list_of, start}
-use Rattle.xl_world.specs.World.{World, Step, Act, Again, Torn, Mark, AreFit, IsFit, IsFitEvent, acts, again, asked_at, list_set, moment_in, place_at, reopened, reply_at, run, set_by, step, torn}
+use Rattle.xl_world.specs.World.{World, Step, Act, Again, Torn, Mark, AreFit, IsFit, IsFitEvent, acts, again, asked_at, list_set, moment_in, place_at, reopened_world, reply_at, run, set_by, step, torn_world}
 use Rattle.xl_world.proofs.Listing.{HasLists, at_node, run_has_lists}
 
 abbrev Valid : InForce → Type 0
@@ -59,9 +59,9 @@ acts_valid w i e fate (Some p) fit valid =
 again_valid : (w : World) (i now number : ℕ) (o : Option Place) → AreValid w → AreValid (again w i now number o)
 again_valid w i now number None valid = valid
 again_valid w i now number (Some p) valid =
-    cond_both (may_hold (held_by p.disk) number) (reopened w i p now number) w AreValid (λ _. All-append Valid w.lists [] valid (All-nil Valid)) (λ _. valid)
+    cond_both (may_hold (held_by p.disk) number) (reopened_world w i p now number) w AreValid (λ _. All-append Valid w.lists [] valid (All-nil Valid)) (λ _. valid)
 
-torn_valid : (w : World) (i now number : ℕ) (o : Option Place) (asked : Option ℕ) → AreValid w → AreValid (torn w i now number o asked)
+torn_valid : (w : World) (i now number : ℕ) (o : Option Place) (asked : Option ℕ) → AreValid w → AreValid (torn_world w i now number o asked)
 torn_valid w i now number None asked valid = valid
 torn_valid w i now number (Some p) None valid = valid
 torn_valid w i now number (Some p) (Some s) valid = again_valid w i now number (Some (record { core = p.core; disk = record p.disk { asked = Some s } })) valid

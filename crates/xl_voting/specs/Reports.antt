@@ -9,7 +9,7 @@ use Rattle.xl_sched.specs.declared.event.Event.{Event}
 use Rattle.xl_sched.specs.declared.named.Named.{Named}
 use Rattle.xl_validations.specs.Rows.{current_of, is_full_of}
 use Rattle.xl_world.specs.declared.outcome.Outcome.{Outcome}
-use Rattle.xl_world.specs.declared.outcome.Outcome.TheVariants.{Switched, Built, Refused, Full, Preferred, Heard}
+use Rattle.xl_world.specs.declared.outcome.Outcome.TheVariants.{Full}
 use Rattle.xl_world.specs.Parts.{parts_of}
 use Rattle.xl_world.specs.Schedule.{after_event, outcomes}
 use Rattle.xl_world.specs.World.{World, core_in}
@@ -75,12 +75,8 @@ report_said keeping names w v i s id =
 
 -- of what is told of an event in a world, the reports count
 abbrev pub outcome_said : {V : Type 0} → Keeping V → List Named → World → V → Outcome → Said V
-outcome_said keeping names w v (Switched node seq id) = silent v
-outcome_said keeping names w v (Built node seq id issued) = silent v
-outcome_said keeping names w v (Refused node refusal) = silent v
 outcome_said keeping names w v (Full node seq id) = report_said keeping names w v node seq id
-outcome_said keeping names w v (Preferred node ledger) = silent v
-outcome_said keeping names w v (Heard node member id) = silent v
+outcome_said keeping names w v other = silent v
 
 -- one after the other
 abbrev pub outcomes_said : {V : Type 0} → Keeping V → List Named → World → V → List Outcome → Said V

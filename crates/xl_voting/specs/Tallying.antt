@@ -13,10 +13,14 @@ pub record LatestFlags : Type 0 where
 abbrev pub none_latest : LatestFlags
 none_latest = record { seqs = replicate 64 0; count = 0 }
 
+-- the greatest sequence that a ledger may have
+abbrev pub greatest_seq : ℕ
+greatest_seq = 4294967295
+
 -- each flag report raised its node's sequence, so there were no more than all these sequences together
 pub record IsCounted (seqs : List ℕ) (count : ℕ) : Type 0 where
   pub long : length seqs ≡ 64
-  pub small : All (λ s. s ≤ 4294967295) seqs
+  pub small : All (λ s. s ≤ greatest_seq) seqs
   pub few : count ≤ sum_by (λ s. s) seqs
 
 -- votes, the sequence of each node's last flag report, and how many flag reports there were
@@ -30,8 +34,8 @@ abbrev pub nothing_tallied : Tallying
 nothing_tallied = record { kept = nothing_kept; last = replicate 64 0; count = 0 }
 
 -- what is kept, as such
-abbrev pub tallied : Keeping Tallying
-tallied = record {
+abbrev pub tally_keeping : Keeping Tallying
+tally_keeping = record {
   named = λ v m fee ids. length (with_rows v.kept.amendments ids);
   voted = λ v m fee ids. record v { kept = kept_favored m fee ids v.kept };
   last = λ v i. slice_index_or v.last (i - 1) 0;

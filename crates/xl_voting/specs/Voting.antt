@@ -16,7 +16,7 @@ use Rattle.xl_sched.specs.declared.refusal.SchedRefusal.TheVariants.{Header, Lim
 use Rattle.xl_sched.specs.Answers.{LineAnswer, passes, gives, refuses}
 use Rattle.xl_sched.specs.Favors.{after_favor, favor_line}
 use Rattle.xl_voting.specs.Keeping.{Keeping}
-use Rattle.xl_voting.specs.Listing.{listed, nothing_listed}
+use Rattle.xl_voting.specs.Listing.{list_keeping, nothing_listed}
 use Rattle.xl_voting.specs.Reports.{Said, event_said}
 use Rattle.xl_voting.specs.Texts.{count_line}
 
@@ -71,8 +71,8 @@ after_favored keeping r v bytes (Ok (Some f)) = after_vote keeping (knows r (aft
 after_favored keeping r v bytes (Err refusal) = refused_line r refusal
 
 -- the end of a schedule: one with no line lacks its header
-abbrev pub ending : {V : Type 0} → Keeping V → Running → V → Told
-ending keeping r v =
+abbrev pub told_at_end : {V : Type 0} → Keeping V → Running → V → Told
+told_at_end keeping r v =
     if r.reading.lines == 0 then closes (bad_line 1 (Header [])) Refused
     else closes (count_line (keeping.count v)) Good
 
@@ -80,7 +80,7 @@ abbrev pub rules : {V : Type 0} → Keeping V → Rules (Voting V)
 rules keeping = record {
   step = λ p bytes _. after_favored keeping p.running p.votes bytes (favor_line p.running.reading bytes);
   overrun = λ p overrun. bad_line (p.running.reading.lines + 1) (beyond overrun);
-  closing = λ p. ending keeping p.running p.votes;
+  closing = λ p. told_at_end keeping p.running p.votes;
 }
 
 -- before the first line
@@ -89,8 +89,8 @@ nothing_read v = record { running = at_first; votes = v }
 
 -- what is told about a schedule: the list of all votes and flag reports says it
 abbrev pub flags_of : List ℕ → Told
-flags_of bytes = told_of limits (rules listed) (nothing_read nothing_listed) bytes
+flags_of bytes = told_of limits (rules list_keeping) (nothing_read nothing_listed) bytes
 
 -- what is told as soon as these bytes have come
 abbrev pub flags_soon : List ℕ → Told
-flags_soon bytes = told_soon limits (rules listed) (nothing_read nothing_listed) bytes
+flags_soon bytes = told_soon limits (rules list_keeping) (nothing_read nothing_listed) bytes

@@ -3,7 +3,7 @@ ghost use Rattle.std.specs.Prelude.{◌≡◌, IfOk, OnOk, List};
 ghost use Rattle.std.specs.String.{string_bytes};
 ghost use Rattle.xl_sched.specs.declared.named.Named.{Named};
 ghost use Rattle.xl_voting.specs.Reports.{behind, news_said, outcome_said, outcomes_said, report_said, said_so};
-ghost use Rattle.xl_voting.specs.Tallying.{tallied};
+ghost use Rattle.xl_voting.specs.Tallying.{tally_keeping};
 
 use crate::counting::{close_of, counted_by};
 use crate::tally::Tally;
@@ -24,7 +24,7 @@ fn news_of(
     report: &Report,
 ) -> Result<Option<FlagNews>, OutOfMemory>
     ensures { IfOk result (λ news. (names : List Named) → news_said names news tally.new
-        ≡ report_said tallied names world.now tally.old node report.now.seq report.now.id) }
+        ≡ report_said tally_keeping names world.now tally.old node report.now.seq report.now.id) }
 {
     if !tally.is_due(node, report.seq) {
         return Ok(None);
@@ -50,7 +50,7 @@ fn tell_outcome(
     text: &mut String,
 ) -> Result<(), OutOfMemory>
     ensures { OnOk result (said_so (string_bytes text.new) tally.new
-        ≡ behind (string_bytes text.old) (outcome_said tallied reader.now.names world.now tally.old outcome.now)) }
+        ≡ behind (string_bytes text.old) (outcome_said tally_keeping reader.now.names world.now tally.old outcome.now)) }
 {
     let Outcome::Full { node, seq, id } = outcome else {
         return Ok(());
@@ -72,7 +72,7 @@ pub fn tell_outcomes(
     text: &mut String,
 ) -> Result<(), OutOfMemory>
     ensures { OnOk result (said_so (string_bytes text.new) tally.new
-        ≡ behind (string_bytes text.old) (outcomes_said tallied reader.now.names world.now tally.old outcomes.now)) }
+        ≡ behind (string_bytes text.old) (outcomes_said tally_keeping reader.now.names world.now tally.old outcomes.now)) }
 {
     for outcome in outcomes {
         tell_outcome(alloc, reader, world, tally, outcome, text)?;

@@ -1,7 +1,7 @@
 ghost use Rattle.std.specs.Prelude.{◌≡◌, ◌≤◌, ◌<◌, length, All, IfOk, IfErr, IsTrue, OnOk};
 ghost use Rattle.xl_flags.specs.Votes.{most_amendments};
 ghost use Rattle.xl_flags.specs.declared.refusal.FlagRefusal.TheVariants.{TooMany};
-ghost use Rattle.xl_voting.specs.Tallying.{nothing_tallied, tallied};
+ghost use Rattle.xl_voting.specs.Tallying.{nothing_tallied, tally_keeping};
 ghost use Rattle.xl_voting.specs.Reports.{is_due};
 
 use crate::latest::Latest;
@@ -42,11 +42,11 @@ impl Tally {
 
     /// A member votes from here on. Refused if too many amendments would be named, or as `OutOfMemory`.
     pub fn vote(&mut self, favor: &Favor) -> Result<(), FlagRefusal>
-        ensures voted { OnOk result (self.new ≡ tallied.voted self.old favor.now.member favor.now.fee favor.now.ids) }
+        ensures voted { OnOk result (self.new ≡ tally_keeping.voted self.old favor.now.member favor.now.fee favor.now.ids) }
         ensures many { IfErr result (λ e. e ≡ TooMany
-            → most_amendments < tallied.named self.old favor.now.member favor.now.fee favor.now.ids) }
+            → most_amendments < tally_keeping.named self.old favor.now.member favor.now.fee favor.now.ids) }
         ensures few { OnOk result
-            (tallied.named self.old favor.now.member favor.now.fee favor.now.ids ≤ most_amendments) }
+            (tally_keeping.named self.old favor.now.member favor.now.fee favor.now.ids ≤ most_amendments) }
     {
         self.votes
             .favor(favor.member, favor.fee, favor.ids.as_slice())
@@ -54,8 +54,8 @@ impl Tally {
 
     /// Whether a node's report of this sequence may be a flag report.
     pub fn is_due(&self, node: NodeNo, seq: Seq) -> bool
-        ensures value { result ≡ is_due tallied self.now node seq }
-        ensures later { IsTrue result → tallied.last self.now node < seq }
+        ensures value { result ≡ is_due tally_keeping self.now node seq }
+        ensures later { IsTrue result → tally_keeping.last self.now node < seq }
     {
         seq % FLAG == 0 && self.latest.of(node) < seq
     }
@@ -68,11 +68,11 @@ impl Tally {
         close: Secs,
         counted: &[NodeNo],
     ) -> Result<FlagNews, OutOfMemory>
-        requires later { tallied.last self.old node < seq }
+        requires later { tally_keeping.last self.old node < seq }
         requires few { length counted.now ≤ 64 }
         requires members { All (λ m. (1 ≤ m) × (m ≤ 64)) counted.now }
-        ensures said { IfOk result (λ news. news ≡ tallied.news self.old node seq close counted.now) }
-        ensures reported { OnOk result (self.new ≡ tallied.reported self.old node seq close counted.now) }
+        ensures said { IfOk result (λ news. news ≡ tally_keeping.news self.old node seq close counted.now) }
+        ensures reported { OnOk result (self.new ≡ tally_keeping.reported self.old node seq close counted.now) }
     {
         let news = self.votes.decide(node, seq, close, counted)?;
         self.latest.report(node, seq);
@@ -81,7 +81,7 @@ impl Tally {
 
     /// How many flag reports there were.
     pub fn count(&self) -> u64
-        ensures { result ≡ tallied.count self.now }
+        ensures { result ≡ tally_keeping.count self.now }
     {
         self.latest.count()
     }

@@ -29,7 +29,7 @@ impl Voter {
     ghost use Rattle.xl_sched.specs.declared.event.What.TheVariants.{All, Timers};
     ghost use Rattle.xl_voting.specs.Reports.{behind, events_said, outcomes_said, said_so};
     ghost use Rattle.xl_voting.specs.States.{state_of};
-    ghost use Rattle.xl_voting.specs.Tallying.{nothing_tallied, tallied};
+    ghost use Rattle.xl_voting.specs.Tallying.{nothing_tallied, tally_keeping};
     ghost use Rattle.xl_voting.specs.Voting.{after_answer, after_happening, after_line, after_vote, nothing_read};
     ghost use Rattle.xl_world.specs.Parts.{after_events, parts_at};
     ghost use Rattle.xl_world.specs.Schedule.{IsPlausible, after_event, outcomes};
@@ -51,7 +51,7 @@ impl Voter {
         requires plausible { IsPlausible event.now.what }
         ensures world { OnOk result (self.new.running ≡ happens self.old.running event.now) }
         ensures said { OnOk result (said_so (string_bytes text.new) self.new.tally
-            ≡ behind (string_bytes text.old) (outcomes_said tallied self.old.running.reading.names
+            ≡ behind (string_bytes text.old) (outcomes_said tally_keeping self.old.running.reading.names
             (after_event (world_of self.old.running) event.now) self.old.tally
             (outcomes (world_of self.old.running) event.now))) }
     {
@@ -75,7 +75,7 @@ impl Voter {
         ensures world { OnOk result (self.new.running ≡ in_world self.old.running
             (after_events (world_of self.old.running) (parts_at (world_of self.old.running) at All))) }
         ensures said { OnOk result (said_so (string_bytes text.new) self.new.tally
-            ≡ behind (string_bytes text.old) (events_said tallied self.old.running.reading.names
+            ≡ behind (string_bytes text.old) (events_said tally_keeping self.old.running.reading.names
             (world_of self.old.running) self.old.tally (parts_at (world_of self.old.running) at All))) }
     {
         self.running.open_world()?;
@@ -94,7 +94,7 @@ impl Voter {
         ensures world { OnOk result (self.new.running ≡ in_world self.old.running
             (after_events (world_of self.old.running) (parts_at (world_of self.old.running) at Timers))) }
         ensures said { OnOk result (said_so (string_bytes text.new) self.new.tally
-            ≡ behind (string_bytes text.old) (events_said tallied self.old.running.reading.names
+            ≡ behind (string_bytes text.old) (events_said tally_keeping self.old.running.reading.names
             (world_of self.old.running) self.old.tally (parts_at (world_of self.old.running) at Timers))) }
     {
         let numbers = self.running.numbers()?;
@@ -111,7 +111,7 @@ impl Voter {
         requires plausible { IsPlausible event.now.what }
         requires empty { string_bytes text.old ≡ [] }
         ensures { OnOk result (goes_on (string_bytes text.new) (state_of self.new)
-            ≡ after_happening tallied self.old.running self.old.tally event.now) }
+            ≡ after_happening tally_keeping self.old.running self.old.tally event.now) }
     {
         match &event.what {
             What::All => self.deliver_all(event.at, text),
@@ -125,7 +125,7 @@ impl Voter {
         requires in_range { IsInRange line.now }
         requires empty { string_bytes text.old ≡ [] }
         ensures { OnOk result (goes_on (string_bytes text.new) (state_of self.new)
-            ≡ after_line tallied self.old.running self.old.tally line.now) }
+            ≡ after_line tally_keeping self.old.running self.old.tally line.now) }
     {
         match line {
             Line::Event(event) => self.happen(event, text),
@@ -137,7 +137,7 @@ impl Voter {
     fn vote(&mut self, favor: &Favor, text: &mut String) -> Result<Next, OutOfMemory>
         requires { string_bytes text.old ≡ [] }
         ensures { IfOk result (λ next. step_given next (string_bytes text.new) (state_of self.new)
-            ≡ after_vote tallied self.old.running self.old.tally favor.now) }
+            ≡ after_vote tally_keeping self.old.running self.old.tally favor.now) }
     {
         match self.tally.vote(favor) {
             Ok(()) => Ok(Next::Line),
@@ -154,7 +154,7 @@ impl Voter {
     fn other_line(&mut self, line: &[u8], text: &mut String) -> Result<Next, OutOfMemory>
         requires { string_bytes text.old ≡ [] }
         ensures { IfOk result (λ next. step_given next (string_bytes text.new) (state_of self.new)
-            ≡ after_answer tallied self.old.running self.old.tally (answer_in self.old.running line.now)) }
+            ≡ after_answer tally_keeping self.old.running self.old.tally (answer_in self.old.running line.now)) }
     {
         match self.running.read(line) {
             Ok(None) => Ok(Next::Line),
@@ -182,7 +182,7 @@ impl Voter {
 
 impl Machine for Voter {
     ghost use Rattle.xl_voting.specs.States.{state_of};
-    ghost use Rattle.xl_voting.specs.Tallying.{Tallying, tallied};
+    ghost use Rattle.xl_voting.specs.Tallying.{Tallying, tally_keeping};
     ghost use Rattle.xl_voting.specs.Voting.{Voting, rules as the_rules};
 
     type Answer = String;
@@ -191,7 +191,7 @@ impl Machine for Voter {
 
     ghost state = { state_of };
 
-    ghost rules = { the_rules tallied };
+    ghost rules = { the_rules tally_keeping };
 
     fn line(&mut self, line: &[u8], _ended: bool, text: &mut String) -> Result<Next, OutOfMemory> {
         match self.running.read_favor(line) {

@@ -24,6 +24,7 @@ use Rattle.xl_wire.specs.SetsRead.{set_refusal}
 use Rattle.xl_wire.specs.declared.ids.Kept.TheVariants.{Spelled}
 use Rattle.xl_wire.specs.Storing.{IsKept}
 use Rattle.xl_wire.specs.Bodies.{version_for, version_of, kind_of, flags_of, proposal_bytes, vote_bytes, validated_bytes, validation_bytes, set_bytes, body_bytes, IsProposal, IsValidation, IsId, IsTxSet, IsBody, SpellsBody, flags_refusal, body_refusal, proposal_in, validated_in, validation_in, body_in, body_of}
+use Rattle.xl_wire.specs.declared.lengths.TheConstants.{VALIDATION_BODY, PROPOSAL_BODY, HEADER_BODY}
 use Rattle.xl_wire.proofs.Numbers.{IsBytes, IsBytes-drop, cut_at, number_at_2, number_at_4, below_4}
 use Rattle.xl_wire.proofs.RawLaws.{by_version}
 use Rattle.xl_wire.proofs.SetLaws.{length-ids_in}
@@ -40,7 +41,7 @@ last_4 : (at : ℕ) (bytes : List ℕ) → IsBytes bytes → at + 4 ≡ length b
 last_4 at bytes fits long =
     number_at_4 at bytes fits (omega arith) ∙ ap (λ (x : List ℕ). big_bytes 4 (big_number 4 (drop at bytes)) ++ x) (drop_all (at + 4) bytes (omega arith)) ∙ append-nil (big_bytes 4 (big_number 4 (drop at bytes)))
 
-proposal_spelled : (bytes : List ℕ) → IsBytes bytes → length bytes ≡ 76 → SpellsBody (bodies.Proposal (proposal_in bytes)) 1 bytes
+proposal_spelled : (bytes : List ℕ) → IsBytes bytes → length bytes ≡ PROPOSAL_BODY → SpellsBody (bodies.Proposal (proposal_in bytes)) 1 bytes
 proposal_spelled bytes fits long = record {
   fits = record {
     prev = omega (arith, length-take 32 bytes);
@@ -90,6 +91,10 @@ one_cell (b ∷ []) h = refl
 one_cell (b ∷ c ∷ bytes) h = absurd (omega arith)
 
 -- flags that aren't refused are 0 or 1
+-- the flags are the last byte that both versions have
+abbrev pub flags_place : ℕ
+flags_place = VALIDATION_BODY - 1
+
 flags_small : (b : ℕ) → refused_if (nat_lt 1 b) (Flags b) ≡ None → b ≤ 1
 flags_small zero h = omega arith
 flags_small (suc zero) h = omega arith
@@ -100,24 +105,24 @@ flags_small (suc (suc b)) h = absurd (too_big (nat_lt 1 (suc (suc b))) (suc (suc
     too_big false b e h = cc
 
 -- a validation has 41 bytes, or an id more
-pub held_long : (n : ℕ) → can_hold 2 n ≡ true → (n ≡ 41) ⊎ (n ≡ 73)
+pub held_long : (n : ℕ) → can_hold 2 n ≡ true → (n ≡ VALIDATION_BODY) ⊎ (n ≡ 73)
 held_long n h =
-    elim (or_cases (n == 41) (n == 73) h) [
-      | inl short ↦ inl (eqb-true n 41 short)
+    elim (or_cases (n == VALIDATION_BODY) (n == 73) h) [
+      | inl short ↦ inl (eqb-true n VALIDATION_BODY short)
       | inr long ↦ inr (eqb-true n 73 long)
     ]
 
 -- what lies behind the 41 bytes
-behind_spelled : (bytes : List ℕ) → (length bytes ≡ 41) ⊎ (length bytes ≡ 73) → (drop 41 bytes ≡ validated_bytes (validated_in bytes)) × IfSome (validated_in bytes) (λ id. length id.0 ≡ 32)
+behind_spelled : (bytes : List ℕ) → (length bytes ≡ VALIDATION_BODY) ⊎ (length bytes ≡ 73) → (drop VALIDATION_BODY bytes ≡ validated_bytes (validated_in bytes)) × IfSome (validated_in bytes) (λ id. length id.0 ≡ 32)
 behind_spelled bytes long =
-    cond_both (nat_lt 41 (length bytes)) (Some (id_made (take 32 (drop 41 bytes)))) None (λ o. (drop 41 bytes ≡ validated_bytes o) × IfSome o (λ id. length id.0 ≡ 32))
+    cond_both (nat_lt VALIDATION_BODY (length bytes)) (Some (id_made (take 32 (drop VALIDATION_BODY bytes)))) None (λ o. (drop VALIDATION_BODY bytes ≡ validated_bytes o) × IfSome o (λ id. length id.0 ≡ 32))
     (λ more.
     let all : length bytes ≡ 73 = elim long [
-      | inl short ↦ absurd (omega (arith, short, ltb-true 41 (length bytes) more))
+      | inl short ↦ absurd (omega (arith, short, ltb-true VALIDATION_BODY (length bytes) more))
       | inr all ↦ all
     ] in
-    (sym (take_all 32 (drop 41 bytes) (omega (arith, length-drop 41 bytes, all))), omega (arith, length-take 32 (drop 41 bytes), length-drop 41 bytes, all)))
-    (λ no_more. (drop_all 41 bytes (omega (arith, ltb-false 41 (length bytes) no_more)), tt))
+    (sym (take_all 32 (drop VALIDATION_BODY bytes) (omega (arith, length-drop VALIDATION_BODY bytes, all))), omega (arith, length-take 32 (drop VALIDATION_BODY bytes), length-drop VALIDATION_BODY bytes, all)))
+    (λ no_more. (drop_all VALIDATION_BODY bytes (omega (arith, ltb-false VALIDATION_BODY (length bytes) no_more)), tt))
   where
     id_made : List ℕ → LedgerId
     id_made x = record { 0 = x }
@@ -125,17 +130,17 @@ behind_spelled bytes long =
 validation_spelled : (bytes : List ℕ) → IsBytes bytes → can_hold 2 (length bytes) ≡ true → flags_refusal bytes ≡ None → SpellsBody (bodies.Validation (validation_in bytes)) 2 bytes
 validation_spelled bytes fits ok none =
     let cases = held_long (length bytes) ok in
-    let long : 41 ≤ length bytes = elim cases [
+    let long : VALIDATION_BODY ≤ length bytes = elim cases [
       | inl short ↦ omega (arith, short)
       | inr all ↦ omega (arith, all)
     ] in
     let behind = behind_spelled bytes cases in
-    let small = flags_small (slice_index bytes 40) none in
-    let flags : drop 40 bytes ≡ (flags_of (slice_index bytes 40 == 1) ∷ []) ++ drop 41 bytes =
-    cut_at 40 1 bytes
-    ∙ ap (λ (x : List ℕ). x ++ drop 41 bytes)
-    (one_cell (take 1 (drop 40 bytes)) (omega (arith, length-take 1 (drop 40 bytes), length-drop 40 bytes))
-    ∙ ap (λ (b : ℕ). b ∷ []) (get_or-take 1 (drop 40 bytes) 0 0 (omega arith) ∙ get_or-drop 40 bytes 0 0 ∙ sym (flags_back (slice_index bytes 40) small))) in
+    let small = flags_small (slice_index bytes flags_place) none in
+    let flags : drop flags_place bytes ≡ (flags_of (slice_index bytes flags_place == 1) ∷ []) ++ drop VALIDATION_BODY bytes =
+    cut_at flags_place 1 bytes
+    ∙ ap (λ (x : List ℕ). x ++ drop VALIDATION_BODY bytes)
+    (one_cell (take 1 (drop flags_place bytes)) (omega (arith, length-take 1 (drop flags_place bytes), length-drop flags_place bytes))
+    ∙ ap (λ (b : ℕ). b ∷ []) (get_or-take 1 (drop flags_place bytes) 0 0 (omega arith) ∙ get_or-drop flags_place bytes 0 0 ∙ sym (flags_back (slice_index bytes flags_place) small))) in
     record {
       fits = record {
         id = omega (arith, length-take 32 bytes);
@@ -144,8 +149,8 @@ validation_spelled bytes fits ok none =
         validated = behind.1;
       };
       kind_is = refl;
-      spelling = five (take 32 bytes) (big_bytes 4 (big_number 4 (drop 32 bytes))) (big_bytes 4 (big_number 4 (drop 36 bytes))) (flags_of (slice_index bytes 40 == 1) ∷ []) (validated_bytes (validated_in bytes))
-          (drop 32 bytes) (drop 36 bytes) (drop 40 bytes) (drop 41 bytes) bytes
+      spelling = five (take 32 bytes) (big_bytes 4 (big_number 4 (drop 32 bytes))) (big_bytes 4 (big_number 4 (drop 36 bytes))) (flags_of (slice_index bytes flags_place == 1) ∷ []) (validated_bytes (validated_in bytes))
+          (drop 32 bytes) (drop 36 bytes) (drop flags_place bytes) (drop VALIDATION_BODY bytes) bytes
           (cut_at 0 32 bytes) (number_at_4 32 bytes fits (omega (arith, long))) (number_at_4 36 bytes fits (omega (arith, long))) flags behind.0;
     }
 
@@ -156,25 +161,25 @@ full_back false = refl
 abbrev validation_of : List ℕ → ℕ → ℕ → Bool → Option LedgerId → Validation
 validation_of id seq signed full validated = record { id = record { 0 = id }; seq = seq; signed = signed; full = full; validated = validated }
 
-pub length-vote_bytes : (v : Validation) → length v.id.0 ≡ 32 → length (vote_bytes v) ≡ 41
+pub length-vote_bytes : (v : Validation) → length v.id.0 ≡ 32 → length (vote_bytes v) ≡ VALIDATION_BODY
 length-vote_bytes v long = omega (arith, long, length-append v.id.0 (big_bytes 4 v.seq), length-append (v.id.0 ++ big_bytes 4 v.seq) (big_bytes 4 v.signed), length-append (v.id.0 ++ big_bytes 4 v.seq ++ big_bytes 4 v.signed) (flags_of v.full ∷ []))
 
 -- the id behind the 41 bytes
-validated_again : (front : List ℕ) (o : Option LedgerId) → length front ≡ 41 → IfSome o (λ id. length id.0 ≡ 32) → validated_in (front ++ validated_bytes o) ≡ o
-validated_again front None long ok = cond-false (nat_lt 41 (length (front ++ []))) _ None (le-ltb 41 (length (front ++ [])) (omega (arith, length-append front [], long)))
+validated_again : (front : List ℕ) (o : Option LedgerId) → length front ≡ VALIDATION_BODY → IfSome o (λ id. length id.0 ≡ 32) → validated_in (front ++ validated_bytes o) ≡ o
+validated_again front None long ok = cond-false (nat_lt VALIDATION_BODY (length (front ++ []))) _ None (le-ltb VALIDATION_BODY (length (front ++ [])) (omega (arith, length-append front [], long)))
 validated_again front (Some id) long ok =
-    let behind : take 32 (drop 41 (front ++ id.0)) ≡ id.0 = ap (take 32) (drop_at front id.0 41 long) ∙ take_all 32 id.0 (omega (arith, ok)) in
-    cond-true (nat_lt 41 (length (front ++ id.0))) (some_id (take 32 (drop 41 (front ++ id.0)))) None (lt-ltb 41 (length (front ++ id.0)) (omega (arith, length-append front id.0, long, ok)))
+    let behind : take 32 (drop VALIDATION_BODY (front ++ id.0)) ≡ id.0 = ap (take 32) (drop_at front id.0 VALIDATION_BODY long) ∙ take_all 32 id.0 (omega (arith, ok)) in
+    cond-true (nat_lt VALIDATION_BODY (length (front ++ id.0))) (some_id (take 32 (drop VALIDATION_BODY (front ++ id.0)))) None (lt-ltb VALIDATION_BODY (length (front ++ id.0)) (omega (arith, length-append front id.0, long, ok)))
     ∙ ap some_id behind
   where
     some_id : List ℕ → Option LedgerId
     some_id x = Some (record { 0 = x })
 
 -- the byte of the flags
-flags_at : (v : Validation) → IsValidation v → slice_index (validation_bytes v) 40 ≡ flags_of v.full
+flags_at : (v : Validation) → IsValidation v → slice_index (validation_bytes v) flags_place ≡ flags_of v.full
 flags_at v ok =
     let n = big_bytes 4 v.seq ++ (big_bytes 4 v.signed ++ ((flags_of v.full ∷ []) ++ validated_bytes v.validated)) in
-    ap (λ (x : List ℕ). slice_index x 40) (five_grouped v.id.0 (big_bytes 4 v.seq) (big_bytes 4 v.signed) (flags_of v.full ∷ []) (validated_bytes v.validated))
+    ap (λ (x : List ℕ). slice_index x flags_place) (five_grouped v.id.0 (big_bytes 4 v.seq) (big_bytes 4 v.signed) (flags_of v.full ∷ []) (validated_bytes v.validated))
     ∙ sym (get_or-drop 32 (v.id.0 ++ n) 8 0) ∙ ap (λ (x : List ℕ). slice_index x 8) (drop_at v.id.0 n 32 ok.id)
 
 validation_again : (v : Validation) → IsValidation v → validation_in (validation_bytes v) ≡ v
@@ -186,9 +191,9 @@ validation_again v ok =
     let seq : big_number 4 (drop 32 (v.id.0 ++ n)) ≡ v.seq = ap (big_number 4) rest ∙ big_number-reads_back 4 v.seq (big_bytes 4 v.signed ++ ((flags_of v.full ∷ []) ++ validated_bytes v.validated)) ok.seq in
     let signed : big_number 4 (drop 36 (v.id.0 ++ n)) ≡ v.signed = ap (big_number 4) second ∙ big_number-reads_back 4 v.signed ((flags_of v.full ∷ []) ++ validated_bytes v.validated) ok.signed in
     let whole : validation_bytes v ≡ v.id.0 ++ n = five_grouped v.id.0 (big_bytes 4 v.seq) (big_bytes 4 v.signed) (flags_of v.full ∷ []) (validated_bytes v.validated) in
-    let full : (slice_index (v.id.0 ++ n) 40 == 1) ≡ v.full = ap (λ (x : List ℕ). slice_index x 40 == 1) (sym whole) ∙ ap (λ (b : ℕ). b == 1) (flags_at v ok) ∙ full_back v.full in
+    let full : (slice_index (v.id.0 ++ n) flags_place == 1) ≡ v.full = ap (λ (x : List ℕ). slice_index x flags_place == 1) (sym whole) ∙ ap (λ (b : ℕ). b == 1) (flags_at v ok) ∙ full_back v.full in
     let validated : validated_in (v.id.0 ++ n) ≡ v.validated = ap validated_in (sym whole) ∙ validated_again (vote_bytes v) v.validated (length-vote_bytes v ok.id) ok.validated in
-    let same : validation_of (take 32 (v.id.0 ++ n)) (big_number 4 (drop 32 (v.id.0 ++ n))) (big_number 4 (drop 36 (v.id.0 ++ n))) (slice_index (v.id.0 ++ n) 40 == 1) (validated_in (v.id.0 ++ n)) ≡ v = rw (id, seq, signed, full, validated) refl in
+    let same : validation_of (take 32 (v.id.0 ++ n)) (big_number 4 (drop 32 (v.id.0 ++ n))) (big_number 4 (drop 36 (v.id.0 ++ n))) (slice_index (v.id.0 ++ n) flags_place == 1) (validated_in (v.id.0 ++ n)) ≡ v = rw (id, seq, signed, full, validated) refl in
     ap validation_in whole ∙ same
 
 flags_pass : (full : Bool) → refused_if (nat_lt 1 (flags_of full)) (Flags (flags_of full)) ≡ None
@@ -370,13 +375,13 @@ tx_alone (suc (suc (suc (suc (suc (suc k)))))) bytes id ok a b c d e = absurd (n
 
 -- what has a spelling has a lawful length
 pub spelled_lawful : (body : Body) → IsBody body → can_have (version_of body) (kind_of body) (length (body_bytes body)) ≡ true
-spelled_lawful (bodies.Proposal p) ok = same_length 76 (length (proposal_bytes p)) (omega (arith, ok.prev, ok.set, length-append p.prev.0 p.set.0, length-append (p.prev.0 ++ p.set.0) (big_bytes 4 p.pseq), length-append (p.prev.0 ++ p.set.0 ++ big_bytes 4 p.pseq) (big_bytes 4 p.close), length-append (p.prev.0 ++ p.set.0 ++ big_bytes 4 p.pseq ++ big_bytes 4 p.close) (big_bytes 4 p.time)))
+spelled_lawful (bodies.Proposal p) ok = same_length PROPOSAL_BODY (length (proposal_bytes p)) (omega (arith, ok.prev, ok.set, length-append p.prev.0 p.set.0, length-append (p.prev.0 ++ p.set.0) (big_bytes 4 p.pseq), length-append (p.prev.0 ++ p.set.0 ++ big_bytes 4 p.pseq) (big_bytes 4 p.close), length-append (p.prev.0 ++ p.set.0 ++ big_bytes 4 p.pseq ++ big_bytes 4 p.close) (big_bytes 4 p.time)))
 spelled_lawful (bodies.Validation v) ok = validation_lawful (vote_bytes v) v.validated (length-vote_bytes v ok.id) ok.validated
   where
-    validation_lawful : (front : List ℕ) (o : Option LedgerId) → length front ≡ 41 → IfSome o (λ id. length id.0 ≡ 32) → can_have (version_for o) 2 (length (front ++ validated_bytes o)) ≡ true
-    validation_lawful front None long fits = same_length 41 (length (front ++ [])) (omega (arith, length-append front [], long))
+    validation_lawful : (front : List ℕ) (o : Option LedgerId) → length front ≡ VALIDATION_BODY → IfSome o (λ id. length id.0 ≡ 32) → can_have (version_for o) 2 (length (front ++ validated_bytes o)) ≡ true
+    validation_lawful front None long fits = same_length VALIDATION_BODY (length (front ++ [])) (omega (arith, length-append front [], long))
     validation_lawful front (Some id) long fits = same_length 73 (length (front ++ id.0)) (omega (arith, length-append front id.0, long, fits))
-spelled_lawful (bodies.Header h) ok = same_length 118 (length h) ok
+spelled_lawful (bodies.Header h) ok = same_length HEADER_BODY (length h) ok
 spelled_lawful (bodies.TxSet ids) ok = set_long (length ids) (length (set_bytes ids)) ok.set.at_most (omega (arith, length-id_bytes ids ok.each))
 spelled_lawful (bodies.Tx id) ok = same_length 32 (length id.0) ok
 
@@ -386,8 +391,8 @@ lawful_held = by_version (λ version kind n. can_hold kind n ≡ true) first ref
   where
     first : (kind n : ℕ) → can_have_first kind n ≡ true → can_hold kind n ≡ true
     first kind n h =
-        cond_both (kind == 2) (n == 41 || n == 73) (can_have_first kind n) (λ b. b ≡ true)
-        (λ two. or_left (n == 41) (n == 73) (subst (λ (k : ℕ). can_have_first k n ≡ true) (eqb-true kind 2 two) h)) (λ _. h)
+        cond_both (kind == 2) (n == VALIDATION_BODY || n == 73) (can_have_first kind n) (λ b. b ≡ true)
+        (λ two. or_left (n == VALIDATION_BODY) (n == 73) (subst (λ (k : ℕ). can_have_first k n ≡ true) (eqb-true kind 2 two) h)) (λ _. h)
 
 -- the version of a lawful frame is the one of its body
 pub version_is : (version kind : ℕ) (bytes : List ℕ) (body : Body) → can_have version kind (length bytes) ≡ true → SpellsBody body kind bytes → version ≡ version_of body

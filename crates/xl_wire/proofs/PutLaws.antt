@@ -14,6 +14,7 @@ use Rattle.xl_wire.specs.Frames.{raw_of, frame_bytes, IsFrame, Spells}
 use Rattle.xl_base.specs.Sets.{IsSet, id_bytes}
 use Rattle.xl_base.specs.Putting.{Puts}
 use Rattle.xl_wire.specs.Writing.{body_length, validated_length}
+use Rattle.xl_wire.specs.declared.lengths.TheConstants.{VALIDATION_BODY, HEAD, AROUND}
 use Rattle.xl_wire.proofs.BodyLaws.{length-id_bytes, length-vote_bytes}
 use Rattle.xl_wire.proofs.RawLaws.{length-raw_bytes}
 
@@ -59,25 +60,25 @@ each_taken n ids le h = subst (λ (x : List TxId). AllByRecursion IsId x) (take_
 
 -- the set so far, one id on
 pub record PutsIds (ids : List TxId) (i : ℕ) (old new : List ℕ) : Type 0 where
-  pub puts : Puts 14 (big_bytes 2 (length ids) ++ id_bytes (take i ids)) old new
+  pub puts : Puts HEAD (big_bytes 2 (length ids) ++ id_bytes (take i ids)) old new
   pub each : AllByRecursion IsId (take i ids)
 
 pub puts_id : (ids : List TxId) (i : ℕ) (id : TxId) (old mid new : List ℕ) → slice_get ids i ≡ Some id → IsId id → i < length ids → PutsIds ids i old mid → Puts (16 + 32 * i) id.0 mid new → PutsIds ids (i + 1) old new
 puts_id ids i id old mid new e long lt p q =
     let one : i + 1 ≡ suc i = omega arith in
     let more : take (i + 1) ids ≡ take i ids ++ id ∷ [] = ap (λ (k : ℕ). take k ids) one ∙ take_id ids i id e in
-    let at : 16 + 32 * i ≡ 14 + length (big_bytes 2 (length ids) ++ id_bytes (take i ids)) = omega (arith, length-id_bytes (take i ids) p.each, length-take i ids) in
-    let both = puts_then 14 (16 + 32 * i) (big_bytes 2 (length ids) ++ id_bytes (take i ids)) id.0 old mid new p.puts q at in
+    let at : 16 + 32 * i ≡ HEAD + length (big_bytes 2 (length ids) ++ id_bytes (take i ids)) = omega (arith, length-id_bytes (take i ids) p.each, length-take i ids) in
+    let both = puts_then HEAD (16 + 32 * i) (big_bytes 2 (length ids) ++ id_bytes (take i ids)) id.0 old mid new p.puts q at in
     let joined : (big_bytes 2 (length ids) ++ id_bytes (take i ids)) ++ id.0 ≡ big_bytes 2 (length ids) ++ id_bytes (take (i + 1) ids) =
     flat_map_more (λ (x : TxId). x.0) (big_bytes 2 (length ids)) (take i ids) id ∙ ap (λ (x : List TxId). big_bytes 2 (length ids) ++ id_bytes x) (sym more) in
     record {
-      puts = subst (λ (x : List ℕ). Puts 14 x old new) joined both;
+      puts = subst (λ (x : List ℕ). Puts HEAD x old new) joined both;
       each = subst (λ (x : List TxId). AllByRecursion IsId x) (sym more) (each_more (take i ids) id p.each long);
     }
 
-pub puts_set : (ids : List TxId) (i : ℕ) (old new : List ℕ) → length ids ≤ i → IsSet ids → PutsIds ids i old new → Puts 14 (set_bytes ids) old new × IsTxSet ids
+pub puts_set : (ids : List TxId) (i : ℕ) (old new : List ℕ) → length ids ≤ i → IsSet ids → PutsIds ids i old new → Puts HEAD (set_bytes ids) old new × IsTxSet ids
 puts_set ids i old new le set p = (
-  subst (λ (x : List TxId). Puts 14 (big_bytes 2 (length ids) ++ id_bytes x) old new) (take_all i ids le) p.puts,
+  subst (λ (x : List TxId). Puts HEAD (big_bytes 2 (length ids) ++ id_bytes x) old new) (take_all i ids le) p.puts,
   record { each = each_taken i ids le p.each; set = set },
 )
 
@@ -87,7 +88,7 @@ pub body_long : (body : Body) → IsBody body → body_length body ≡ length (b
 body_long (bodies.Proposal p) ok = omega (arith, ok.prev, ok.set, length-append p.prev.0 p.set.0, length-append (p.prev.0 ++ p.set.0) (big_bytes 4 p.pseq), length-append (p.prev.0 ++ p.set.0 ++ big_bytes 4 p.pseq) (big_bytes 4 p.close), length-append (p.prev.0 ++ p.set.0 ++ big_bytes 4 p.pseq ++ big_bytes 4 p.close) (big_bytes 4 p.time))
 body_long (bodies.Validation v) ok = validation_long (vote_bytes v) v.validated (length-vote_bytes v ok.id) ok.validated
   where
-    validation_long : (front : List ℕ) (o : Option LedgerId) → length front ≡ 41 → IfSome o (λ id. length id.0 ≡ 32) → 41 + validated_length o ≡ length (front ++ validated_bytes o)
+    validation_long : (front : List ℕ) (o : Option LedgerId) → length front ≡ VALIDATION_BODY → IfSome o (λ id. length id.0 ≡ 32) → VALIDATION_BODY + validated_length o ≡ length (front ++ validated_bytes o)
     validation_long front None long fits = omega (arith, length-append front [], long)
     validation_long front (Some id) long fits = omega (arith, length-append front id.0, long, fits)
 body_long (bodies.Header h) ok = sym ok
@@ -97,22 +98,22 @@ body_long (bodies.Tx id) ok = sym ok
 -- head, sender, receiver, body and tag, one after the other
 pub puts_frame : (f : Frame) (version kind n : ℕ) (r0 r1 r2 r3 r4 r5 : List ℕ) → version ≡ version_of f.body → kind ≡ kind_of f.body → n ≡ body_length f.body → IsFrame f
     → Puts 0 ((0x58 ∷ 0x4C ∷ version ∷ kind ∷ []) ++ big_bytes 2 n) r0 r1 → Puts 6 (big_bytes 4 f.from) r1 r2 → Puts 10 (big_bytes 4 f.to) r2 r3
-    → Puts 14 (body_bytes f.body) r3 r4 → Puts (14 + n) f.tag r4 r5 → Spells f (take (46 + n) r5) × (drop (46 + n) r5 ≡ drop (46 + n) r0)
+    → Puts HEAD (body_bytes f.body) r3 r4 → Puts (HEAD + n) f.tag r4 r5 → Spells f (take (AROUND + n) r5) × (drop (AROUND + n) r5 ≡ drop (AROUND + n) r0)
 puts_frame f version kind n r0 r1 r2 r3 r4 r5 v k e ok p p1 p2 p3 p4 =
     let head = (0x58 ∷ 0x4C ∷ version_of f.body ∷ kind_of f.body ∷ []) ++ big_bytes 2 n in
     let p0 : Puts 0 head r0 r1 = subst (λ (x : ℕ). Puts 0 ((0x58 ∷ 0x4C ∷ version_of f.body ∷ x ∷ []) ++ big_bytes 2 n) r0 r1) k (subst (λ (y : ℕ). Puts 0 ((0x58 ∷ 0x4C ∷ y ∷ kind ∷ []) ++ big_bytes 2 n) r0 r1) v p) in
     let long : n ≡ length (body_bytes f.body) = e ∙ body_long f.body ok.body in
     let a = puts_then 0 6 head (big_bytes 4 f.from) r0 r1 r2 p0 p1 refl in
     let b = puts_then 0 10 (head ++ big_bytes 4 f.from) (big_bytes 4 f.to) r0 r2 r3 a p2 refl in
-    let c = puts_then 0 14 (head ++ big_bytes 4 f.from ++ big_bytes 4 f.to) (body_bytes f.body) r0 r3 r4 b p3 refl in
-    let d = puts_then 0 (14 + n) (head ++ big_bytes 4 f.from ++ big_bytes 4 f.to ++ body_bytes f.body) f.tag r0 r4 r5 c p4 (omega (arith, length-append (head ++ big_bytes 4 f.from ++ big_bytes 4 f.to) (body_bytes f.body), long)) in
+    let c = puts_then 0 HEAD (head ++ big_bytes 4 f.from ++ big_bytes 4 f.to) (body_bytes f.body) r0 r3 r4 b p3 refl in
+    let d = puts_then 0 (HEAD + n) (head ++ big_bytes 4 f.from ++ big_bytes 4 f.to ++ body_bytes f.body) f.tag r0 r4 r5 c p4 (omega (arith, length-append (head ++ big_bytes 4 f.from ++ big_bytes 4 f.to) (body_bytes f.body), long)) in
     let whole : Puts 0 (frame_bytes f) r0 r5 = subst (λ (k : ℕ). Puts 0 ((0x58 ∷ 0x4C ∷ version_of f.body ∷ kind_of f.body ∷ []) ++ big_bytes 2 k ++ big_bytes 4 f.from ++ big_bytes 4 f.to ++ body_bytes f.body ++ f.tag) r0 r5) long d in
-    let count : 46 + n ≡ length (frame_bytes f) = omega (arith, long, length-raw_bytes (raw_of f) ok.tag) in
+    let count : AROUND + n ≡ length (frame_bytes f) = omega (arith, long, length-raw_bytes (raw_of f) ok.tag) in
     let start : 0 + length (frame_bytes f) ≡ length (frame_bytes f) = omega arith in
     let is : r5 ≡ frame_bytes f ++ drop (length (frame_bytes f)) r0 = whole.is ∙ ap (λ (k : ℕ). frame_bytes f ++ drop k r0) start in (
       record {
         frame = ok;
-        spelling = ap (take (46 + n)) is ∙ take_at (frame_bytes f) (drop (length (frame_bytes f)) r0) (46 + n) (sym count);
+        spelling = ap (take (AROUND + n)) is ∙ take_at (frame_bytes f) (drop (length (frame_bytes f)) r0) (AROUND + n) (sym count);
       },
-      ap (drop (46 + n)) is ∙ drop_at (frame_bytes f) (drop (length (frame_bytes f)) r0) (46 + n) (sym count) ∙ ap (λ (k : ℕ). drop k r0) (sym count),
+      ap (drop (AROUND + n)) is ∙ drop_at (frame_bytes f) (drop (length (frame_bytes f)) r0) (AROUND + n) (sym count) ∙ ap (λ (k : ℕ). drop k r0) (sym count),
     )

@@ -12,6 +12,7 @@ use Rattle.xl_wire.specs.Raws.{RawFrame, raw_bytes, IsRaw, SpellsRaw}
 use Rattle.xl_base.specs.Refusals.{refused_if, first_of}
 use Rattle.xl_wire.specs.Heads.{differs, version_in, kind_in, length_in, head_refusal, lacking, raw_in, split_unless, split_of}
 use Rattle.xl_wire.specs.Heads.Split.{Whole}
+use Rattle.xl_wire.specs.declared.lengths.TheConstants.{HEAD, AROUND}
 use Rattle.xl_wire.proofs.Numbers.{IsBytes, IsBytes-drop, IsBytes-take, cut_at, number_at_2, number_at_4, below_4}
 
 not_refused : (b : Bool) (r : WireRefusal) → refused_if b r ≡ None → b ≡ false
@@ -122,22 +123,22 @@ pub length-raw_bytes : (f : RawFrame) → length f.tag ≡ 32 → length (raw_by
 length-raw_bytes f h = omega (arith, length-append f.body f.tag, length-append ((0x58 ∷ 0x4C ∷ f.version ∷ f.kind ∷ []) ++ big_bytes 2 (length f.body) ++ big_bytes 4 f.from ++ big_bytes 4 f.to ++ f.body) f.tag, length-append ((0x58 ∷ 0x4C ∷ f.version ∷ f.kind ∷ []) ++ big_bytes 2 (length f.body) ++ big_bytes 4 f.from ++ big_bytes 4 f.to) f.body)
 
 -- a whole frame's fields spell it
-raw_spelled : (bytes : List ℕ) → IsBytes bytes → 6 ≤ length bytes → head_refusal bytes ≡ None → 46 + length_in bytes ≤ length bytes → (bytes ≡ raw_bytes (raw_in bytes) ++ drop (46 + length_in bytes) bytes) × IsRaw (raw_in bytes)
+raw_spelled : (bytes : List ℕ) → IsBytes bytes → 6 ≤ length bytes → head_refusal bytes ≡ None → AROUND + length_in bytes ≤ length bytes → (bytes ≡ raw_bytes (raw_in bytes) ++ drop (AROUND + length_in bytes) bytes) × IsRaw (raw_in bytes)
 raw_spelled bytes fits six none long =
     let n = length_in bytes in
     let head = head_is bytes six none in
-    let body_len : length (take n (drop 14 bytes)) ≡ n = omega (arith, length-take n (drop 14 bytes), length-drop 14 bytes) in
-    let e1 : drop 4 bytes ≡ big_bytes 2 (length (take n (drop 14 bytes))) ++ drop 6 bytes = subst (λ (k : ℕ). drop 4 bytes ≡ big_bytes 2 k ++ drop 6 bytes) (sym body_len) (number_at_2 4 bytes fits (omega arith)) in
-    let e5 : drop (14 + n) bytes ≡ take 32 (drop (14 + n) bytes) ++ drop (46 + n) bytes = cut_at (14 + n) 32 bytes ∙ ap (λ (k : ℕ). take 32 (drop (14 + n) bytes) ++ drop k bytes) (omega arith) in
-    let all = joined (0x58 ∷ 0x4C ∷ version_in bytes ∷ kind_in bytes ∷ []) (big_bytes 2 (length (take n (drop 14 bytes)))) (big_bytes 4 (big_number 4 (drop 6 bytes))) (big_bytes 4 (big_number 4 (drop 10 bytes))) (take n (drop 14 bytes)) (take 32 (drop (14 + n) bytes)) (drop (46 + n) bytes)
-    (drop 4 bytes) (drop 6 bytes) (drop 10 bytes) (drop 14 bytes) (drop (14 + n) bytes) bytes
-    head.front e1 (number_at_4 6 bytes fits (omega arith)) (number_at_4 10 bytes fits (omega arith)) (cut_at 14 n bytes) e5 in (
+    let body_len : length (take n (drop HEAD bytes)) ≡ n = omega (arith, length-take n (drop HEAD bytes), length-drop HEAD bytes) in
+    let e1 : drop 4 bytes ≡ big_bytes 2 (length (take n (drop HEAD bytes))) ++ drop 6 bytes = subst (λ (k : ℕ). drop 4 bytes ≡ big_bytes 2 k ++ drop 6 bytes) (sym body_len) (number_at_2 4 bytes fits (omega arith)) in
+    let e5 : drop (HEAD + n) bytes ≡ take 32 (drop (HEAD + n) bytes) ++ drop (AROUND + n) bytes = cut_at (HEAD + n) 32 bytes ∙ ap (λ (k : ℕ). take 32 (drop (HEAD + n) bytes) ++ drop k bytes) (omega arith) in
+    let all = joined (0x58 ∷ 0x4C ∷ version_in bytes ∷ kind_in bytes ∷ []) (big_bytes 2 (length (take n (drop HEAD bytes)))) (big_bytes 4 (big_number 4 (drop 6 bytes))) (big_bytes 4 (big_number 4 (drop 10 bytes))) (take n (drop HEAD bytes)) (take 32 (drop (HEAD + n) bytes)) (drop (AROUND + n) bytes)
+    (drop 4 bytes) (drop 6 bytes) (drop 10 bytes) (drop HEAD bytes) (drop (HEAD + n) bytes) bytes
+    head.front e1 (number_at_4 6 bytes fits (omega arith)) (number_at_4 10 bytes fits (omega arith)) (cut_at HEAD n bytes) e5 in (
       all,
       record {
         lawful = subst (λ (k : ℕ). IsTrue (can_have (version_in bytes) (kind_in bytes) k)) (sym body_len) head.lawful;
         from = below_4 (drop 6 bytes) (IsBytes-drop 6 bytes fits);
         to = below_4 (drop 10 bytes) (IsBytes-drop 10 bytes fits);
-        tag = omega (arith, length-take 32 (drop (14 + n) bytes), length-drop (14 + n) bytes);
+        tag = omega (arith, length-take 32 (drop (HEAD + n) bytes), length-drop (HEAD + n) bytes);
       },
     )
 
@@ -147,7 +148,7 @@ split_is (Some r) lack raw f e = absurd cc
 split_is None (suc lack) raw f e = absurd cc
 split_is None zero raw f e = (refl, refl, cc)
 
-none_lacks : (bytes : List ℕ) → lacking bytes ≡ 0 → (6 ≤ length bytes) × (46 + length_in bytes ≤ length bytes)
+none_lacks : (bytes : List ℕ) → lacking bytes ≡ 0 → (6 ≤ length bytes) × (AROUND + length_in bytes ≤ length bytes)
 none_lacks bytes e = grind (arith, nat_tests)
 
 -- what is split off is what the first bytes spell
@@ -158,11 +159,11 @@ split_spelled bytes f fits e =
     let all = raw_spelled bytes fits long.0 s.0 long.1 in
     let spells : SpellsRaw (raw_in bytes) (take (span (raw_in bytes).body) bytes) = record {
       frame = all.1;
-      spelling = ap (take (span (raw_in bytes).body)) all.0 ∙ take_at (raw_bytes (raw_in bytes)) (drop (46 + length_in bytes) bytes) (span (raw_in bytes).body) (length-raw_bytes (raw_in bytes) all.1.tag);
+      spelling = ap (take (span (raw_in bytes).body)) all.0 ∙ take_at (raw_bytes (raw_in bytes)) (drop (AROUND + length_in bytes) bytes) (span (raw_in bytes).body) (length-raw_bytes (raw_in bytes) all.1.tag);
     } in
     subst (λ (x : RawFrame). SpellsRaw x (take (span x.body) bytes)) s.2 spells
 
-nothing_lacks : (bytes : List ℕ) → 6 ≤ length bytes → 46 + length_in bytes ≤ length bytes → lacking bytes ≡ 0
+nothing_lacks : (bytes : List ℕ) → 6 ≤ length bytes → AROUND + length_in bytes ≤ length bytes → lacking bytes ≡ 0
 nothing_lacks bytes h k = grind (arith, nat_tests)
 
 split_whole : (refusal : Option WireRefusal) (lack : ℕ) (raw f : RawFrame) → refusal ≡ None → lack ≡ 0 → raw ≡ f → split_unless refusal lack raw ≡ Whole f
@@ -183,7 +184,7 @@ split_again f rest ok =
     let bytes = raw_bytes f ++ rest in
     let small : n < 2 ^ 16 = body_below f.version f.kind n ok.lawful in
     let count : length_in bytes ≡ n = big_number-reads_back 2 n (big_bytes 4 f.from ++ (big_bytes 4 f.to ++ ((f.body ++ f.tag) ++ rest))) (omega arith) in
-    let long : length bytes ≡ 46 + n + length rest = omega (arith, length-append (raw_bytes f) rest, length-raw_bytes f ok.tag) in
+    let long : length bytes ≡ AROUND + n + length rest = omega (arith, length-append (raw_bytes f) rest, length-raw_bytes f ok.tag) in
     let lawful : can_have f.version f.kind (length_in bytes) ≡ true = subst (λ (k : ℕ). can_have f.version f.kind k ≡ true) (sym count) ok.lawful in
     let none : head_refusal bytes ≡ None = none_all
     (refused_if (differs bytes 0 0x58) (Magic 0))
@@ -196,10 +197,10 @@ split_again f rest ok =
     (never_refused (nat_lt 2 (length bytes)) (is_version (version_in bytes)) (Version (version_in bytes)) (version_is_one f.version f.kind n ok.lawful))
     (never_refused (nat_lt 3 (length bytes)) (is_kind (version_in bytes) (kind_in bytes)) (Kind (kind_in bytes)) (kind_is_one f.version f.kind n ok.lawful))
     (never_refused (nat_lt 5 (length bytes)) (can_have (version_in bytes) (kind_in bytes) (length_in bytes)) (Length (kind_in bytes) (length_in bytes)) lawful) in
-    let tail : drop 14 bytes ≡ f.body ++ (f.tag ++ rest) = append_assoc f.body f.tag rest in
-    let body : take (length_in bytes) (drop 14 bytes) ≡ f.body = ap (λ (k : ℕ). take k (drop 14 bytes)) count ∙ ap (take n) tail ∙ take_at f.body (f.tag ++ rest) n refl in
-    let after : drop (14 + length_in bytes) bytes ≡ f.tag ++ rest = ap (λ (k : ℕ). drop (14 + k) bytes) count ∙ sym (drop-drop n 14 bytes) ∙ ap (drop n) tail ∙ drop_at f.body (f.tag ++ rest) n refl in
-    let tag : take 32 (drop (14 + length_in bytes) bytes) ≡ f.tag = ap (take 32) after ∙ take_at f.tag rest 32 ok.tag in
+    let tail : drop HEAD bytes ≡ f.body ++ (f.tag ++ rest) = append_assoc f.body f.tag rest in
+    let body : take (length_in bytes) (drop HEAD bytes) ≡ f.body = ap (λ (k : ℕ). take k (drop HEAD bytes)) count ∙ ap (take n) tail ∙ take_at f.body (f.tag ++ rest) n refl in
+    let after : drop (HEAD + length_in bytes) bytes ≡ f.tag ++ rest = ap (λ (k : ℕ). drop (HEAD + k) bytes) count ∙ sym (drop-drop n HEAD bytes) ∙ ap (drop n) tail ∙ drop_at f.body (f.tag ++ rest) n refl in
+    let tag : take 32 (drop (HEAD + length_in bytes) bytes) ≡ f.tag = ap (take 32) after ∙ take_at f.tag rest 32 ok.tag in
     let from : big_number 4 (drop 6 bytes) ≡ f.from = big_number-reads_back 4 f.from (big_bytes 4 f.to ++ ((f.body ++ f.tag) ++ rest)) ok.from in
     let to : big_number 4 (drop 10 bytes) ≡ f.to = big_number-reads_back 4 f.to ((f.body ++ f.tag) ++ rest) ok.to in
     split_whole (head_refusal bytes) (lacking bytes) (raw_in bytes) f none (nothing_lacks bytes (omega arith) (omega arith)) (raw_same (raw_in bytes) f refl refl from to body tag)
@@ -211,18 +212,18 @@ spelled_split bytes f s =
     ∙ split_again f (drop (span f.body) bytes) s.frame
 
 -- a whole frame's body is lawful
-pub body_lawful : (bytes : List ℕ) (n : ℕ) → n ≡ length_in bytes → head_refusal bytes ≡ None → lacking bytes ≡ 0 → IsLawful (version_in bytes) (kind_in bytes) (take (14 + n - 14) (drop 14 bytes)) × (14 + n + 32 ≡ span (take (14 + n - 14) (drop 14 bytes)))
+pub body_lawful : (bytes : List ℕ) (n : ℕ) → n ≡ length_in bytes → head_refusal bytes ≡ None → lacking bytes ≡ 0 → IsLawful (version_in bytes) (kind_in bytes) (take (HEAD + n - HEAD) (drop HEAD bytes)) × (HEAD + n + 32 ≡ span (take (HEAD + n - HEAD) (drop HEAD bytes)))
 body_lawful bytes n is none lack =
     let long = none_lacks bytes lack in
     let head = head_is bytes long.0 none in
-    let len : length (take (14 + n - 14) (drop 14 bytes)) ≡ n = omega (arith, length-take (14 + n - 14) (drop 14 bytes), length-drop 14 bytes) in
+    let len : length (take (HEAD + n - HEAD) (drop HEAD bytes)) ≡ n = omega (arith, length-take (HEAD + n - HEAD) (drop HEAD bytes), length-drop HEAD bytes) in
     (subst (λ (k : ℕ). IsTrue (can_have (version_in bytes) (kind_in bytes) k)) (sym (len ∙ is)) head.lawful, omega arith)
 
 -- the body of what is split off is bytes
 pub split_bytes : (bytes : List ℕ) (f : RawFrame) → IsBytes bytes → split_of bytes ≡ Whole f → IsBytes f.body
 split_bytes bytes f fits e =
     let s = split_is (head_refusal bytes) (lacking bytes) (raw_in bytes) f e in
-    subst (λ (x : RawFrame). IsBytes x.body) s.2 (IsBytes-take (length_in bytes) (drop 14 bytes) (IsBytes-drop 14 bytes fits))
+    subst (λ (x : RawFrame). IsBytes x.body) s.2 (IsBytes-take (length_in bytes) (drop HEAD bytes) (IsBytes-drop HEAD bytes fits))
 
 -- frames whose spellings begin one list are one
 pub one_raw : (f g : RawFrame) (x y s t : List ℕ) → SpellsRaw f x → SpellsRaw g y → x ++ s ≡ y ++ t → (x ≡ y) × (f ≡ g)

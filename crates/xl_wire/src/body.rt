@@ -5,6 +5,7 @@ ghost use Rattle.xl_base.specs.Refusals.{unless_refused};
 ghost use Rattle.xl_wire.specs.Kinds.{can_hold};
 
 use crate::kinds::{HEADER, PROPOSAL, TX_SET, VALIDATION};
+use crate::lengths::VALIDATION_BODY;
 use crate::{Ids, Proposal, Raw, Validation, WireRefusal};
 use byteorder::{BigEndian, ByteOrder};
 use xl_base::{LedgerId, SetId, TxId, bytes_at};
@@ -86,8 +87,8 @@ fn read_validated(bytes: &[u8]) -> Option<LedgerId>
     requires { IsTrue (can_hold 2 (length bytes.now)) }
     ensures { result ≡ validated_in bytes.now }
 {
-    if bytes.len() > 41 {
-        Some(LedgerId(bytes_at(bytes, 41)))
+    if bytes.len() > VALIDATION_BODY {
+        Some(LedgerId(bytes_at(bytes, VALIDATION_BODY)))
     } else {
         None
     }

@@ -6,7 +6,7 @@ ghost use Rattle.xl_base.specs.Putting.{Puts};
 ghost use Rattle.xl_wire.specs.Writing.{body_length, frame_length, validated_length};
 
 use crate::kinds::{FIRST, HEADER, PROPOSAL, SECOND, TX, TX_SET, VALIDATION};
-use crate::lengths::{AROUND, HEAD};
+use crate::lengths::{AROUND, COUNT, HEAD, HEADER_BODY, ID, PROPOSAL_BODY, VALIDATION_BODY};
 use crate::{Body, Frame, Ids, Proposal, Validation};
 use xl_base::{LedgerId, put, put_field, put_u16, put_u32};
 
@@ -72,8 +72,8 @@ fn put_head(room: &mut [u8], version: u8, kind: u8, body_length: u16)
 }
 
 fn put_body(room: &mut [u8], body: &Body<'_>)
-    requires { 14 + body_length body.now ≤ length room.old }
-    ensures puts { Puts 14 (body_bytes body.now) room.old room.new }
+    requires { HEAD + body_length body.now ≤ length room.old }
+    ensures puts { Puts HEAD (body_bytes body.now) room.old room.new }
     ensures fits { IsBody body.now }
 {
     match body {
@@ -81,25 +81,25 @@ fn put_body(room: &mut [u8], body: &Body<'_>)
         Body::Validation(validation) => put_validation(room, validation),
         Body::Header(header) => put_header(room, header),
         Body::TxSet(ids) => put_set(room, ids),
-        Body::Tx(id) => put_field(room, 14, &id.0),
+        Body::Tx(id) => put_field(room, HEAD, &id.0),
     }
 }
 
 fn put_proposal(room: &mut [u8], proposal: &Proposal)
-    requires { 14 + 76 ≤ length room.old }
-    ensures puts { Puts 14 (proposal_bytes proposal.now) room.old room.new }
+    requires { HEAD + PROPOSAL_BODY ≤ length room.old }
+    ensures puts { Puts HEAD (proposal_bytes proposal.now) room.old room.new }
     ensures fits { IsProposal proposal.now }
 {
-    put_field(room, 14, &proposal.prev.0);
-    put_field(room, 46, &proposal.set.0);
-    put_u32(room, 78, proposal.pseq);
-    put_u32(room, 82, proposal.close);
-    put_u32(room, 86, proposal.time);
+    put_field(room, HEAD, &proposal.prev.0);
+    put_field(room, HEAD + 32, &proposal.set.0);
+    put_u32(room, HEAD + 64, proposal.pseq);
+    put_u32(room, HEAD + 68, proposal.close);
+    put_u32(room, HEAD + 72, proposal.time);
 }
 
 fn put_validation(room: &mut [u8], validation: &Validation)
-    requires { 14 + (41 + validated_length validation.now.validated) ≤ length room.old }
-    ensures puts { Puts 14 (validation_bytes validation.now) room.old room.new }
+    requires { HEAD + (VALIDATION_BODY + validated_length validation.now.validated) ≤ length room.old }
+    ensures puts { Puts HEAD (validation_bytes validation.now) room.old room.new }
     ensures fits { IsValidation validation.now }
 {
     put_vote(room, validation);
@@ -108,25 +108,25 @@ fn put_validation(room: &mut [u8], validation: &Validation)
 
 /// What both versions have of a validation.
 fn put_vote(room: &mut [u8], validation: &Validation)
-    requires { 14 + 41 ≤ length room.old }
-    ensures puts { Puts 14 (vote_bytes validation.now) room.old room.new }
+    requires { HEAD + VALIDATION_BODY ≤ length room.old }
+    ensures puts { Puts HEAD (vote_bytes validation.now) room.old room.new }
     ensures id { length validation.now.id.0 ≡ 32 }
     ensures seq { validation.now.seq < 2 ^ 32 }
     ensures signed { validation.now.signed < 2 ^ 32 }
 {
-    put_field(room, 14, &validation.id.0);
-    put_u32(room, 46, validation.seq);
-    put_u32(room, 50, validation.signed);
-    put(room, 54, &[flags_of(validation.full)]);
+    put_field(room, HEAD, &validation.id.0);
+    put_u32(room, HEAD + 32, validation.seq);
+    put_u32(room, HEAD + 36, validation.signed);
+    put(room, HEAD + 40, &[flags_of(validation.full)]);
 }
 
 fn put_validated(room: &mut [u8], validated: &Option<LedgerId>)
-    requires { 55 + validated_length validated.now ≤ length room.old }
-    ensures puts { Puts 55 (validated_bytes validated.now) room.old room.new }
+    requires { HEAD + VALIDATION_BODY + validated_length validated.now ≤ length room.old }
+    ensures puts { Puts (HEAD + VALIDATION_BODY) (validated_bytes validated.now) room.old room.new }
     ensures fits { IfSome validated.now (λ id. length id.0 ≡ 32) }
 {
     if let Some(id) = validated {
-        put_field(room, 55, &id.0);
+        put_field(room, HEAD + VALIDATION_BODY, &id.0);
     }
 }
 
@@ -137,20 +137,20 @@ fn flags_of(full: bool) -> u8
 }
 
 fn put_header(room: &mut [u8], header: &[u8; 118])
-    requires { 14 + 118 ≤ length room.old }
-    ensures puts { Puts 14 header.now room.old room.new }
+    requires { HEAD + HEADER_BODY ≤ length room.old }
+    ensures puts { Puts HEAD header.now room.old room.new }
     ensures fits { length header.now ≡ 118 }
 {
-    put(room, 14, header);
+    put(room, HEAD, header);
 }
 
 fn put_set(room: &mut [u8], ids: &Ids<'_>)
-    requires { 14 + (2 + 32 * length ids.now) ≤ length room.old }
-    ensures puts { Puts 14 (set_bytes ids.now) room.old room.new }
+    requires { HEAD + (2 + 32 * length ids.now) ≤ length room.old }
+    ensures puts { Puts HEAD (set_bytes ids.now) room.old room.new }
     ensures fits { IsTxSet ids.now }
 {
-    put_u16(room, 14, ids.len() as u16);
+    put_u16(room, HEAD, ids.len() as u16);
     for i in 0..ids.len() {
-        put_field(room, 16 + 32 * i, &ids.get(i).0);
+        put_field(room, HEAD + COUNT + ID * i, &ids.get(i).0);
     }
 }

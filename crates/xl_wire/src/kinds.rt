@@ -13,6 +13,7 @@ pub const PROPOSAL: u8 = 1;
 
 pub const VALIDATION: u8 = 2;
 
+/// The kind of a frame that tells a header.
 pub const HEADER: u8 = 3;
 
 pub const TX_SET: u8 = 4;

@@ -6,13 +6,13 @@ use crate::Body;
 use xl_base::{LedgerId, MOST_IDS};
 
 /// The mark, the version, the kind, the body's length, the sender and the receiver stand before a body.
-pub(crate) const HEAD: usize = 14;
+pub const HEAD: usize = 14;
 
 /// The tag stands behind it.
 pub(crate) const TAG: usize = 32;
 
 /// How many bytes a frame has besides its body.
-pub(crate) const AROUND: usize = HEAD + TAG;
+pub const AROUND: usize = HEAD + TAG;
 
 pub(crate) const ID: usize = 32;
 

@@ -232,4 +232,4 @@ of_built a top subs h words =
     of_level a.top top (names_of a) h words (is_some (entered a stop)) (entered_fault a stop) (of_entered a subs stop)
 
 pub stand_alone : (words : List Text) → StandAlone (fault_of program words)
-stand_alone words = of_built (built program) refl (refl, (refl, (refl, (refl, (refl, (refl, (refl, (refl, (refl, tt))))))))) nothing_held (argument_words program words)
+stand_alone words = of_built (built program) refl (refl, (refl, (refl, (refl, (refl, (refl, (refl, (refl, (refl, (refl, tt)))))))))) nothing_held (argument_words program words)

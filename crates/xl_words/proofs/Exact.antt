@@ -14,7 +14,7 @@ use Rattle.clap.specs.declared.error.Error.{Error}
 use Rattle.clap.specs.Words.{HasKind, Kinds, kind_of, Text, is_simple, is_simple_and_free}
 use Rattle.xl_words.specs.declared.command.Command.{Command}
 use Rattle.xl_words.specs.declared.command.Command.TheVariants.{Node, Tell}
-use Rattle.xl_words.specs.declared.command.Telling.TheVariants.{Replay, Show, Lists, Merge, Audit, Flags, Negative, Gen, Help, Version}
+use Rattle.xl_words.specs.declared.command.Telling.TheVariants.{Replay, Show, Lists, Merge, Audit, Blame, Flags, Negative, Gen, Help, Version}
 use Rattle.xl_words.specs.declared.command.WordsFault.{WordsFault}
 use Rattle.xl_words.specs.declared.command.WordsFault.TheVariants.{Refused, Memory}
 use Rattle.xl_words.specs.Programs.{program}
@@ -53,6 +53,10 @@ merge_is name = refl
 audit_is : (name : Text) → command_of (name ∷ codes "audit" ∷ []) ≡ Some (Tell Audit)
 unfolding clap_on_literals
 audit_is name = refl
+
+blame_is : (name : Text) → command_of (name ∷ codes "blame" ∷ []) ≡ Some (Tell Blame)
+unfolding clap_on_literals
+blame_is name = refl
 
 flags_is : (name : Text) → command_of (name ∷ codes "flags" ∷ []) ≡ Some (Tell Flags)
 unfolding clap_on_literals
@@ -121,6 +125,7 @@ exactly [] (Tell Show) w = absurd cc
 exactly [] (Tell Lists) w = absurd cc
 exactly [] (Tell Merge) w = absurd cc
 exactly [] (Tell Audit) w = absurd cc
+exactly [] (Tell Blame) w = absurd cc
 exactly [] (Tell Flags) w = absurd cc
 exactly [] (Tell Negative) w = absurd cc
 exactly [] (Tell (Gen n)) w = let bad = w.1 in absurd cc
@@ -134,6 +139,7 @@ exactly (name ∷ rest) (Tell Show) w = rw w (show_is name)
 exactly (name ∷ rest) (Tell Lists) w = rw w (lists_is name)
 exactly (name ∷ rest) (Tell Merge) w = rw w (merge_is name)
 exactly (name ∷ rest) (Tell Audit) w = rw w (audit_is name)
+exactly (name ∷ rest) (Tell Blame) w = rw w (blame_is name)
 exactly (name ∷ rest) (Tell Flags) w = rw w (flags_is name)
 exactly (name ∷ rest) (Tell Negative) w = rw w (negative_is name)
 exactly (name ∷ rest) (Tell (Gen n)) w = rw w.1 (gen_text name w.0 n w.2)

@@ -11,7 +11,7 @@ use Rattle.clap.specs.declared.error.kind.ErrorKind.{ErrorKind}
 use Rattle.clap.specs.declared.error.kind.ErrorKind.TheVariants.{DisplayHelp, DisplayVersion, OutOfMemory}
 use Rattle.xl_words.specs.declared.command.Command.{Command}
 use Rattle.xl_words.specs.declared.command.Command.TheVariants.{Node, Tell}
-use Rattle.xl_words.specs.declared.command.Telling.TheVariants.{Replay, Show, Lists, Merge, Audit, Flags, Negative, Gen, Help, Version}
+use Rattle.xl_words.specs.declared.command.Telling.TheVariants.{Replay, Show, Lists, Merge, Audit, Blame, Flags, Negative, Gen, Help, Version}
 use Rattle.xl_words.specs.declared.command.WordsFault.{WordsFault}
 use Rattle.xl_words.specs.declared.command.WordsFault.TheVariants.{Refused, Memory}
 use Rattle.xl_words.specs.Programs.{program}
@@ -51,6 +51,7 @@ command_named name rows =
     else if bytes_eq name (codes "lists") then Some (Tell Lists)
     else if bytes_eq name (codes "merge") then Some (Tell Merge)
     else if bytes_eq name (codes "audit") then Some (Tell Audit)
+    else if bytes_eq name (codes "blame") then Some (Tell Blame)
     else if bytes_eq name (codes "flags") then Some (Tell Flags)
     else if bytes_eq name (codes "negative") then Some (Tell Negative)
     else if bytes_eq name (codes "gen") then option_map gen (rounds_in rows)
@@ -93,6 +94,7 @@ IsExactly words (Tell Show) = drop 1 words ≡ codes "show" ∷ []
 IsExactly words (Tell Lists) = drop 1 words ≡ codes "lists" ∷ []
 IsExactly words (Tell Merge) = drop 1 words ≡ codes "merge" ∷ []
 IsExactly words (Tell Audit) = drop 1 words ≡ codes "audit" ∷ []
+IsExactly words (Tell Blame) = drop 1 words ≡ codes "blame" ∷ []
 IsExactly words (Tell Flags) = drop 1 words ≡ codes "flags" ∷ []
 IsExactly words (Tell Negative) = drop 1 words ≡ codes "negative" ∷ []
 IsExactly words (Tell (Gen n)) = (text : Text) × (drop 1 words ≡ codes "gen" ∷ text ∷ []) × IsRounds text n

@@ -14,6 +14,7 @@ commands_text =
     ++ codes "  lists          compares the trusted lists of a schedule, pair by pair\n"
     ++ codes "  merge          tells which list is in force, from the rolls of publishers\n"
     ++ codes "  audit          says whether each entry of a written journal is right\n"
+    ++ codes "  blame          says which members said two ledgers, by the journals of nodes\n"
     ++ codes "  flags          says which amendments are enabled, by the votes of a schedule\n"
     ++ codes "  negative       writes a schedule with the lists that leave out silent members\n"
     ++ codes "  show           writes what each frame of a stream says\n"
@@ -28,13 +29,14 @@ streams_text =
     ++ codes "and negative read a schedule, which begins with the line: xl-schedule 1\n"
     ++ codes "merge reads rolls, in a text that begins with the line: xl-publish 1\n"
     ++ codes "audit reads a written journal, which begins with the line: xl-journal 1\n"
+    ++ codes "blame reads one journal or more, each right behind the one before it.\n"
     ++ codes "show reads the bytes of frames, and node its settings, which are TOML.\n\n"
 
 -- how it may end, and where to read on
 unfoldable pub statuses_text : List ℕ
 statuses_text =
     codes "status 0  all is written\n"
-    ++ codes "       1  all is written, and two nodes forked, or an entry is wrong\n"
+    ++ codes "       1  all is written, with a fork, a wrong entry, or something to blame\n"
     ++ codes "       2  the words are no command\n"
     ++ codes "       3  the input is refused, and the last line says where and why\n"
     ++ codes "       4  a read failed; 5  a write failed; 6  memory was wanting\n"

@@ -29,9 +29,9 @@ bare = record (new_app (codes "xl")) {
   };
 }
 
--- the program with its nine commands
+-- the program with its ten commands
 abbrev pub program : App
 program = with_subcommand (with_subcommand (with_subcommand (with_subcommand (with_subcommand (with_subcommand
-    (with_subcommand (with_subcommand (with_subcommand bare (plain (codes "replay"))) (plain (codes "node"))) (plain
-    (codes "show"))) (plain (codes "lists"))) (plain (codes "merge"))) (plain (codes "audit"))) (plain (codes
-    "flags"))) (plain (codes "negative"))) with_rounds
+    (with_subcommand (with_subcommand (with_subcommand (with_subcommand bare (plain (codes "replay"))) (plain (codes
+    "node"))) (plain (codes "show"))) (plain (codes "lists"))) (plain (codes "merge"))) (plain (codes "audit"))) (plain
+    (codes "blame"))) (plain (codes "flags"))) (plain (codes "negative"))) with_rounds

@@ -31,6 +31,8 @@ pub enum Telling {
     Merge,
     /// Says whether each entry of a written journal is right.
     Audit,
+    /// Says which reports of several written journals differ, and which members said two ledgers.
+    Blame,
     /// Says which amendments are enabled, and which fee is set, by the votes of a schedule.
     Flags,
     /// Writes a schedule again, with the lists that leave out silent members.
@@ -111,6 +113,9 @@ fn named(name: &str, matches: &ArgMatches<'_>) -> Option<Command>
     }
     if name == "audit" {
         return Some(Command::Tell(Telling::Audit));
+    }
+    if name == "blame" {
+        return Some(Command::Tell(Telling::Blame));
     }
     if name == "flags" {
         return Some(Command::Tell(Telling::Flags));

@@ -35,6 +35,9 @@ fn push_commands(text: &mut String) -> Result<(), AllocError>
     text.push_str("  merge          tells which list is in force, from the rolls of publishers\n")?;
     text.push_str("  audit          says whether each entry of a written journal is right\n")?;
     text.push_str(
+        "  blame          says which members said two ledgers, by the journals of nodes\n",
+    )?;
+    text.push_str(
         "  flags          says which amendments are enabled, by the votes of a schedule\n",
     )?;
     text.push_str(
@@ -56,6 +59,7 @@ fn push_streams(text: &mut String) -> Result<(), AllocError>
     text.push_str("and negative read a schedule, which begins with the line: xl-schedule 1\n")?;
     text.push_str("merge reads rolls, in a text that begins with the line: xl-publish 1\n")?;
     text.push_str("audit reads a written journal, which begins with the line: xl-journal 1\n")?;
+    text.push_str("blame reads one journal or more, each right behind the one before it.\n")?;
     text.push_str("show reads the bytes of frames, and node its settings, which are TOML.\n\n")?;
     Ok(())
 }
@@ -65,7 +69,7 @@ fn push_statuses(text: &mut String) -> Result<(), AllocError>
     ensures { OnOk result (string_bytes text.new ≡ string_bytes text.old ++ statuses_text) }
 {
     text.push_str("status 0  all is written\n")?;
-    text.push_str("       1  all is written, and two nodes forked, or an entry is wrong\n")?;
+    text.push_str("       1  all is written, with a fork, a wrong entry, or something to blame\n")?;
     text.push_str("       2  the words are no command\n")?;
     text.push_str("       3  the input is refused, and the last line says where and why\n")?;
     text.push_str("       4  a read failed; 5  a write failed; 6  memory was wanting\n")?;

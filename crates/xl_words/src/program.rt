@@ -38,6 +38,7 @@ pub fn program<'a>(alloc: Global) -> Result<Command<'a>, AllocError>
         .subcommand(Command::new(alloc, "lists"))?
         .subcommand(Command::new(alloc, "merge"))?
         .subcommand(Command::new(alloc, "audit"))?
+        .subcommand(Command::new(alloc, "blame"))?
         .subcommand(Command::new(alloc, "flags"))?
         .subcommand(Command::new(alloc, "negative"))?
         .subcommand(rounds)

@@ -1,10 +1,10 @@
 -- A run, as its parts say it.
-use Rattle.std.proofs.Common.{◌≡◌, ◌≤◌, ℕ, List, ◌∷◌, ◌++◌, length, map, refl, sym, ap, ◌∙◌, arith}
+use Rattle.std.proofs.Common.{◌≡◌, ◌≤◌, ℕ, List, [], ◌∷◌, ◌++◌, length, length-append, map, refl, sym, ap, ◌∙◌, arith}
 use mathlib.Core.List.{IsPrefix}
 use Rattle.xl_base.specs.Faults.{Rose}
 use Rattle.xl_base.specs.declared.ids.TxId.{TxId}
 use Rattle.xl_turns.specs.declared.view.Knowledge.{Knowledge}
-use Rattle.xl_turns.specs.Knowing.{newcomer, whole}
+use Rattle.xl_turns.specs.Knowing.{newcomer, all_shares}
 use Rattle.xl_turns.specs.Places.{all_below}
 use Rattle.xl_turns.proofs.Prefixes.{prefix_all, prefix_trans}
 use Rattle.xl_links.specs.Tellings.{AddsTold}
@@ -13,7 +13,7 @@ use Rattle.xl_core.specs.Core.{Core}
 use Rattle.xl_store.specs.declared.entry.Entry.{Entry}
 use Rattle.xl_store.specs.declared.store.StoreEnd.{StoreEnd}
 use Rattle.xl_store.specs.declared.store.StoreEnd.TheVariants as refused
-use Rattle.xl_store.proofs.Making.{rise_wider, prefix_length}
+use Rattle.xl_store.proofs.Making.{made_none, rise_wider, prefix_length}
 use Rattle.xl_store.proofs.Journals.{stand_in_longer}
 use Rattle.xl_heartbeat.specs.declared.pulse.Pulse.{Pulse}
 use Rattle.xl_heartbeat.specs.declared.ends.BeatEnd.{BeatEnd}
@@ -26,7 +26,7 @@ use Rattle.xl_workers.specs.declared.ends.RunEnd.TheVariants as end
 use Rattle.xl_workers.specs.Linking.{HubSeen, AsksFront, member_in}
 use Rattle.xl_workers.specs.Submits.{Submitted, SubmittedFront}
 use Rattle.xl_workers.specs.Sharing.{Setting, SharedOut, SubmitPart}
-use Rattle.xl_workers.specs.Runs.{Doing, doing}
+use Rattle.xl_workers.specs.Runs.{Doing, doing_of}
 use Rattle.xl_workers.specs.Working.{Closes, Worked, TookLast, Lives, Lived, end_of}
 use Rattle.xl_workers.proofs.Links.{none_front}
 use Rattle.xl_workers.proofs.Shared.{stands, full_longer}
@@ -40,6 +40,13 @@ closes_earlier turns old new history begins drawn close = record {
   drawn = let le = close.drawn in omega (arith, le, drawn);
   limit = close.limit;
 }
+
+-- a history whose places are none is empty
+none_below : (history : List Entry) → [] ≡ all_below (length history) → history ≡ []
+none_below [] empty = refl
+none_below (e ∷ es) empty =
+    let long = ap (length {A = ℕ}) empty in
+    absurd (omega (arith, long, length-append (all_below (length es)) (length es ∷ [])))
 
 -- reports that are taken after a heartbeat
 module _ (start : Core) (turns : ℕ) (old new : Knowledge Entry) (o1 o2 : Output) (last : Ending) where
@@ -94,7 +101,7 @@ module _ (s : Setting) where
       → AddsTold old_hub.asked new_hub.asked targets
       → Worked s pulse (map member_in targets) old o1 beats mid o2
       → TookLast s.start s.turns beats.run mid o2 last new o3
-      → Lives s (doing ids targets pulse old_hub new_hub o1 o3) ids (end.Ran beats last) old new
+      → Lives s (doing_of ids targets pulse old_hub new_hub o1 o3) ids (end.Ran beats last) old new
   lives_ran pulse targets ids old_hub new_hub old mid new o1 o2 o3 beats last asked w t = record {
     asked = asked;
     share = t.made.share ∙ w.share;
@@ -103,7 +110,7 @@ module _ (s : Setting) where
   }
 
   -- nothing ran, if memory runs out
-  pub lives_none : (d : Doing) (k : Knowledge Entry) → k.share ≡ whole → d.new_output ≡ d.old_output
+  pub lives_none : (d : Doing) (k : Knowledge Entry) → k.share ≡ all_shares → d.new_output ≡ d.old_output
       → AsksFront d.old_hub d.targets d.new_hub → Lives s d d.ids end.OutOfMemory k k
   lives_none d k share silent asked = record {
     asked = asked;
@@ -113,7 +120,7 @@ module _ (s : Setting) where
   }
 
   -- nothing ran, since the hub failed
-  pub lives_unlinked : (d : Doing) (k : Knowledge Entry) → k.share ≡ whole → d.new_output ≡ d.old_output
+  pub lives_unlinked : (d : Doing) (k : Knowledge Entry) → k.share ≡ all_shares → d.new_output ≡ d.old_output
       → AsksFront d.old_hub d.targets d.new_hub → Rose d.old_hub.faults d.new_hub.faults
       → Lives s d d.ids end.NetFault k k
   lives_unlinked d k share silent asked rose = record {
@@ -125,7 +132,7 @@ module _ (s : Setting) where
 
   -- submits keep the share of the first pass
   pub still_whole : (ids : List TxId) (old mid : Knowledge Entry) → old ≡ newcomer
-      → Submitted s.start s.may_give old ids mid → mid.share ≡ whole
+      → Submitted s.start s.may_give old ids mid → mid.share ≡ all_shares
   still_whole ids old mid first sub = sub.made.share ∙ ap (λ (k : Knowledge Entry). k.share) first
 
   -- all ids were submitted by the first pass
@@ -156,6 +163,26 @@ module _ (s : Setting) where
     stand = stands s.start old new f.submitted.calls history f.submitted.made
         (ap (λ (k : Knowledge Entry). k.mine) first) seen;
   }
+
+  -- nothing happened: there were too few threads
+  pub lived_unstarted : (d : Doing) (k : Knowledge Entry) → k ≡ newcomer → d.new_output ≡ d.old_output
+      → d.new_hub.asked ≡ d.old_hub.asked → Lived s d end.TooFewThreads k
+  lived_unstarted d k first silent unasked =
+      let mine : k.mine ≡ [] = ap (λ (it : Knowledge Entry). it.mine) first in
+      record {
+        share = ap (λ (it : Knowledge Entry). it.share) first;
+        run = λ history close all. record {
+          done = [];
+          submits = k.mine;
+          submitting = record {
+            calls = [];
+            each = tt;
+            stand = stands s.start k k [] history (made_none s.start k k refl refl refl) mine close.begins;
+          };
+          by = (none_below history (sym mine ∙ all), record { all = all; silent = silent });
+          asked = unasked;
+        };
+      }
 
   -- a submit had no turn
   pub lived_front : (d : Doing) (old new : Knowledge Entry) (why : StoreEnd) → old ≡ newcomer

@@ -5,7 +5,7 @@ use Rattle.std.specs.List.{AllByRecursion, flat_map}
 use mathlib.Core.List.{IsPrefix}
 use Rattle.xl_turns.specs.declared.view.Knowledge.{Knowledge}
 use Rattle.xl_turns.specs.declared.pass.Pass.{Pass}
-use Rattle.xl_turns.specs.Knowing.{whole, joined}
+use Rattle.xl_turns.specs.Knowing.{all_shares, joined}
 use Rattle.xl_turns.specs.Places.{merge}
 use Rattle.xl_turns.specs.Passes.{known}
 use Rattle.xl_turns.proofs.Prefixes.{prefix_trans}
@@ -142,7 +142,7 @@ module _ {B K L : Type 0} (store : Store B K) (may : ℕ → Bool) (shows : L �
       (end : BeatEnd) (old new : List (Worker L))
       (j : Joined pulse first heart beaten one pass old_output new_output end old new) where
     -- all shares came together
-    whole_share : (known pass).share ≡ whole
+    whole_share : (known pass).share ≡ all_shares
     whole_share =
         let pairs = pairs_served old new j.served j.long in
         let sums = paired_sum (HasServed store may shows) share_of same_share old new pairs in

@@ -1,5 +1,5 @@
 -- A whole run of a node. Source: this project's own.
-use Rattle.std.specs.Prelude.{◌≡◌, ℕ, List, ◌∷◌, ◌++◌, length, map}
+use Rattle.std.specs.Prelude.{◌≡◌, ℕ, List, [], ◌∷◌, ◌++◌, length, map}
 use mathlib.Core.List.{IsPrefix}
 use Rattle.xl_base.specs.Faults.{Rose}
 use Rattle.xl_base.specs.declared.ids.TxId.{TxId}
@@ -22,6 +22,7 @@ abbrev pub status_of_end : RunEnd → Status
 status_of_end (end.Ran beats last) = status_of_run beats last
 status_of_end end.NetFault = status.NetFault
 status_of_end end.OutOfMemory = status.OutOfMemory
+status_of_end end.TooFewThreads = status.OutOfMemory
 status_of_end (end.StoreFull n) = status.StoreFull
 
 -- what a run is to do, and what the hub and the output show before it and after it
@@ -34,8 +35,8 @@ pub record Doing : Type 0 where
   pub old_output : Output
   pub new_output : Output
 
-abbrev pub doing : List TxId → List Target → Pulse → HubSeen → HubSeen → Output → Output → Doing
-doing ids targets pulse old_hub new_hub old_output new_output = record {
+abbrev pub doing_of : List TxId → List Target → Pulse → HubSeen → HubSeen → Output → Output → Doing
+doing_of ids targets pulse old_hub new_hub old_output new_output = record {
   ids = ids;
   targets = targets;
   pulse = pulse;
@@ -54,15 +55,18 @@ pub record NoMore (d : Doing) (history : List Entry) (submits : List ℕ) : Type
 abbrev pub IsLess : List TxId → List TxId → Type 0
 IsLess done ids = (next : TxId) × (rest : List TxId) × (ids ≡ done ++ next ∷ rest)
 
--- The links that the hub was asked for: all if the workers ran, none if a submit had no turn, and else the first of them
+-- The links that the hub was asked for: all if the workers ran, none if there were too few threads or a submit had no
+-- turn, and else the first of them
 abbrev pub IsAsked : Doing → RunEnd → Type 0
 IsAsked d (end.Ran beats last) = AddsTold d.old_hub.asked d.new_hub.asked d.targets
 IsAsked d end.NetFault = AsksFront d.old_hub d.targets d.new_hub
 IsAsked d end.OutOfMemory = AsksFront d.old_hub d.targets d.new_hub
+IsAsked d end.TooFewThreads = d.new_hub.asked ≡ d.old_hub.asked
 IsAsked d (end.StoreFull n) = d.new_hub.asked ≡ d.old_hub.asked
 
 -- What each end says. If the workers ran, all ids were submitted and the other places are shared out. Else the
--- submits have all places: the hub failed after all of them, memory ran out, or all turns of the store were drawn
+-- submits have all places: the hub failed after all of them, memory ran out, or all turns of the store were drawn. If
+-- there were too few threads nothing happened
 abbrev pub EndsBy : Setting → Doing → List Entry → List TxId → List ℕ → RunEnd → Type 0
 EndsBy s d history done submits (end.Ran beats last) =
     (done ≡ d.ids)
@@ -72,6 +76,7 @@ EndsBy s d history done submits end.NetFault =
     × NoMore d history submits
     × Rose d.old_hub.faults d.new_hub.faults
 EndsBy s d history done submits end.OutOfMemory = IsPrefix done d.ids × NoMore d history submits
+EndsBy s d history done submits end.TooFewThreads = (history ≡ []) × NoMore d history submits
 EndsBy s d history done submits (end.StoreFull n) =
     IsLess done d.ids
     × NoMore d history submits

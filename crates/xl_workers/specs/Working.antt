@@ -6,7 +6,7 @@ use mathlib.Core.List.{IsPrefix}
 use Rattle.xl_base.specs.declared.ids.TxId.{TxId}
 use Rattle.xl_turns.specs.declared.view.Knowledge.{Knowledge}
 use Rattle.xl_turns.specs.declared.pass.Pass.{Pass}
-use Rattle.xl_turns.specs.Knowing.{whole}
+use Rattle.xl_turns.specs.Knowing.{all_shares}
 use Rattle.xl_turns.specs.Places.{all_below}
 use Rattle.xl_turns.specs.Passes.{known}
 use Rattle.xl_core.specs.declared.report.Report.{Report}
@@ -32,7 +32,7 @@ use Rattle.xl_workers.specs.Runs.{Doing, EndsBy, IsAsked, NodeRun}
 module _ {L : Type 0} where
   -- all shares are there, and only the first pass may have places
   pub record AreAll (one heart : Pass Entry) (workers : List (Worker L)) : Type 0 where
-    pub shares : (known one).share + (known heart).share + total share_of workers ≡ whole
+    pub shares : (known one).share + (known heart).share + total share_of workers ≡ all_shares
     pub idle : (known heart).mine ≡ []
     pub fresh : AllByRecursion IsFresh workers
 
@@ -49,7 +49,7 @@ pub record Worked (s : Setting) (pulse : Pulse) (members : List ℕ)
   pub calls : List Call
   pub beat : List ℕ
   pub parts : List (List ℕ)
-  pub share : new.share ≡ whole
+  pub share : new.share ≡ all_shares
   pub begins : IsPrefix old.seen new.seen
   pub mine : new.mine ≡ merge_all old.mine (beat ∷ parts)
   pub written : IsWritten end.run (lines_of calls) old_output new_output
@@ -76,7 +76,7 @@ pub record TookLast (start : Core) (turns : ℕ) (beats : Ending)
 -- a whole pass came back, and what it says of the run when the store is closed, whose submits have the old places
 pub record Lives (s : Setting) (d : Doing) (done : List TxId) (end : RunEnd) (old new : Knowledge Entry)
     : Type 0 where
-  pub share : new.share ≡ whole
+  pub share : new.share ≡ all_shares
   pub begins : IsPrefix old.seen new.seen
   pub asked : IsAsked d end
   pub by : (history : List Entry) → Closes s.turns new history → new.mine ≡ all_below (length history)
@@ -84,7 +84,7 @@ pub record Lives (s : Setting) (d : Doing) (done : List TxId) (end : RunEnd) (ol
 
 -- the same of the whole run
 pub record Lived (s : Setting) (d : Doing) (end : RunEnd) (new : Knowledge Entry) : Type 0 where
-  pub share : new.share ≡ whole
+  pub share : new.share ≡ all_shares
   pub run : (history : List Entry) → Closes s.turns new history → new.mine ≡ all_below (length history)
       → NodeRun s d end history
 

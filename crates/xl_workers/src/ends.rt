@@ -13,6 +13,8 @@ pub enum RunEnd {
     NetFault,
     /// Memory ran out before the heartbeat and the workers ran.
     OutOfMemory,
+    /// A thread for each member and one more couldn't be started. Nothing happened at the core, and no link was opened.
+    TooFewThreads,
     /// A submit found all turns of the store drawn: it has this many. No link was opened.
     StoreFull(u64),
 }
@@ -25,7 +27,7 @@ impl RunEnd {
         match self {
             RunEnd::Ran { beats, last } => status_of_run(beats, last),
             RunEnd::NetFault => Status::NetFault,
-            RunEnd::OutOfMemory => Status::OutOfMemory,
+            RunEnd::OutOfMemory | RunEnd::TooFewThreads => Status::OutOfMemory,
             RunEnd::StoreFull(_) => Status::StoreFull,
         }
     }

@@ -17,9 +17,10 @@ mod linking;
 mod living;
 mod plan;
 mod running;
+mod starting;
 mod submitting;
 mod worker;
 
 pub use ends::RunEnd;
 pub use plan::{Contact, Plan};
-pub use running::{Ran, node, node_and_tell};
+pub use running::{Ran, node};

@@ -8,7 +8,7 @@ ghost use Rattle.xl_heartbeat.specs.Bulletins.{ToldIf};
 ghost use Rattle.xl_heartbeat.specs.Outputs.{output};
 ghost use Rattle.xl_workers.specs.Linking.{contact_of, target_of, hub_seen};
 ghost use Rattle.xl_workers.specs.Sharing.{setting};
-ghost use Rattle.xl_workers.specs.Runs.{doing};
+ghost use Rattle.xl_workers.specs.Runs.{doing_of};
 ghost use Rattle.xl_workers.specs.Working.{TookLast, Lived, end_of};
 
 use crate::ends::RunEnd;
@@ -16,6 +16,7 @@ use crate::hiring::hire;
 use crate::joining::join_all;
 use crate::linking::{NoLinks, open_links};
 use crate::plan::Plan;
+use crate::starting::can_run;
 use crate::submitting::submit_all;
 use crate::worker::run;
 use std::sync::Wait;
@@ -62,7 +63,7 @@ fn end_of(end: StoreEnd) -> RunEnd
 }
 
 /// Submits the ids, opens the links, and has a worker for each peer beside the heartbeat. When all have ended, their
-/// passes are joined and the last reports are taken.
+/// passes are joined and the last reports are taken. If there aren't threads for all of them, nothing is done.
 pub(crate) fn live<
     W: Threads + Wait + Sync,
     B: Branch + Drop + Send,
@@ -90,8 +91,9 @@ pub(crate) fn live<
     ensures pass { IsOf store.now result.1 }
     ensures later { H.faults hub.old ≤ H.faults hub.new }
     ensures unopened { (n : ℕ) → result.0 ≡ RunEnd.StoreFull n → hub.new ≡ hub.old }
+    ensures unstarted { result.0 ≡ RunEnd.TooFewThreads → hub.new ≡ hub.old }
     ensures lived { Lived (setting (start_of store.now) (turns_of store.now) (C.may_give host.now.clock.now) (H.gives hub.old))
-        (doing plan.submits.items (map target_of plan.contacts.items) plan.pulse
+        (doing_of plan.submits.items (map target_of plan.contacts.items) plan.pulse
         (hub_seen (H.faults hub.old) (H.asked hub.old)) (hub_seen (H.faults hub.new) (H.asked hub.new))
         (output (O.held sink.old) (O.faults sink.old)) (output (O.held sink.new) (O.faults sink.new)))
         result.0 (known result.1) }
@@ -104,6 +106,9 @@ pub(crate) fn live<
         contacts,
         pulse,
     } = plan;
+    if !can_run(host.rt, contacts.len() + 1) {
+        return (RunEnd::TooFewThreads, pass);
+    }
     match submit_all(host.rt, store, &mut pass, &submits, host.clock) {
         Ok(()) => {}
         Err(end) => return (end_of(end), pass),

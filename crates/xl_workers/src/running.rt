@@ -13,7 +13,7 @@ ghost use Rattle.xl_heartbeat.specs.Bulletins.{ToldIf};
 ghost use Rattle.xl_heartbeat.specs.Outputs.{output};
 ghost use Rattle.xl_workers.specs.Linking.{contact_of, hub_seen, target_of};
 ghost use Rattle.xl_workers.specs.Sharing.{setting};
-ghost use Rattle.xl_workers.specs.Runs.{doing, NodeRun};
+ghost use Rattle.xl_workers.specs.Runs.{doing_of, NodeRun};
 
 use crate::ends::RunEnd;
 use crate::living::live;
@@ -21,7 +21,7 @@ use crate::plan::Plan;
 use std::alloc::Global;
 use std::sync::Wait;
 use std::thread::Threads;
-use xl_board::{Board, MemBoard};
+use xl_board::Board;
 use xl_core::Core;
 use xl_heartbeat::Bulletin;
 use xl_io::{Keeper, Sink};
@@ -38,56 +38,13 @@ pub struct Ran<B: Branch, K> {
 }
 
 /// Runs a validator over a core and its keeper. It submits the plan's ids, opens a link to each of its members, and
-/// serves them all side by side with the heartbeat until that ends the run. Then it takes the last reports and closes
-/// the store.
+/// serves them all side by side with the heartbeat until that ends the run. The heartbeat tells on the bulletin, if there
+/// is one, how the node is. Then it takes the last reports and closes the store.
 ///
-/// The members are peers of the core, and none stands twice. If there was no memory for the store, core and keeper
+/// Before all that it starts a thread for each member and one more, which end at once: a run that has fewer would serve
+/// some members alone, and not say so. The members are peers of the core, and none stands twice. If there was no memory for the store, core and keeper
 /// come back, and nothing happened. What it leaves tells how every other run ended.
 pub fn node<
-    W: Threads + Wait + Sync,
-    B: Branch + Drop + Send,
-    K: Keeper + Drop + Send,
-    H: Hub,
-    G: Gate + Sync,
-    C: Clock + Sync,
-    O: Sink + Send,
->(
-    host: &Host<'_, W, G, C>,
-    core: Core<B>,
-    keeper: K,
-    plan: Plan,
-    hub: &mut H,
-    sink: &mut O,
-) -> Result<Ran<B, K>, Spared<B, K>>
-    requires turns { (0 < plan.turns) × (plan.turns ≤ 2 ^ 62) }
-    requires peers { AllByRecursion (λ m. IsSome (key_of core.node.keys m)) (map contact_of plan.contacts.items) }
-    requires once { IsDistinct nat_eq (map contact_of plan.contacts.items) }
-    requires few { length plan.contacts.items ≤ 64 }
-    // the journal is one legal history, which leads to the core, and leaves the keeper
-    ensures legal { IfOk result (λ ran. Runs Leads core ran.closed.journal ran.closed.core) }
-    ensures life { IfOk result (λ ran. ran.closed.core ≡ core_after core (life_of ran.closed.journal)) }
-    ensures keeper { IfOk result (λ ran. KeepsAll K.held K.saves K.faults K.save_gives
-        core ran.closed.journal keeper ran.closed.keeper) }
-    ensures limit { IfOk result (λ ran. length ran.closed.journal ≤ plan.turns) }
-    ensures kept { IfOk result (λ ran. ran.closed.entries ≡ entries_if plan.keeps ran.closed.journal) }
-    // its places are shared out, its lines are the output, and the hub was asked for links as the plan names them
-    ensures run { IfOk result (λ ran. NodeRun
-        (setting core plan.turns (C.may_give host.now.clock.now) (H.gives hub.old))
-        (doing plan.submits.items (map target_of plan.contacts.items) plan.pulse
-        (hub_seen (H.faults hub.old) (H.asked hub.old)) (hub_seen (H.faults hub.new) (H.asked hub.new))
-        (output (O.held sink.old) (O.faults sink.old)) (output (O.held sink.new) (O.faults sink.new)))
-        ran.end ran.closed.journal) }
-    ensures unopened { IfOk result (λ ran. (n : ℕ) → ran.end ≡ RunEnd.StoreFull n → hub.new ≡ hub.old) }
-    ensures later { H.faults hub.old ≤ H.faults hub.new }
-    ensures spared { IfErr result (λ spared. (spared.core ≡ core) × (spared.keeper ≡ keeper)) }
-    ensures nothing { OnErr result ((hub.new ≡ hub.old) × (sink.new ≡ sink.old)) }
-{
-    let mut untold: Option<Bulletin<MemBoard>> = None;
-    node_and_tell(host, core, keeper, plan, hub, sink, &mut untold)
-}
-
-/// Runs a validator as `node` does, whose heartbeat tells on the bulletin, if there is one, how the node is.
-pub fn node_and_tell<
     W: Threads + Wait + Sync,
     B: Branch + Drop + Send,
     K: Keeper + Drop + Send,
@@ -119,11 +76,12 @@ pub fn node_and_tell<
     // its places are shared out, its lines are the output, and the hub was asked for links as the plan names them
     ensures run { IfOk result (λ ran. NodeRun
         (setting core plan.turns (C.may_give host.now.clock.now) (H.gives hub.old))
-        (doing plan.submits.items (map target_of plan.contacts.items) plan.pulse
+        (doing_of plan.submits.items (map target_of plan.contacts.items) plan.pulse
         (hub_seen (H.faults hub.old) (H.asked hub.old)) (hub_seen (H.faults hub.new) (H.asked hub.new))
         (output (O.held sink.old) (O.faults sink.old)) (output (O.held sink.new) (O.faults sink.new)))
         ran.end ran.closed.journal) }
     ensures unopened { IfOk result (λ ran. (n : ℕ) → ran.end ≡ RunEnd.StoreFull n → hub.new ≡ hub.old) }
+    ensures unstarted { IfOk result (λ ran. ran.end ≡ RunEnd.TooFewThreads → hub.new ≡ hub.old) }
     ensures later { H.faults hub.old ≤ H.faults hub.new }
     // what the board was handed is the texts of how the core was, at places of the journal
     ensures told { IfOk result (λ ran. ToldIf D.show_gives core bulletin.old ran.closed.journal bulletin.new) }

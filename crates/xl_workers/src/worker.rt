@@ -11,7 +11,7 @@ use std::sync::Wait;
 use std::thread;
 use std::thread::Threads;
 use xl_board::Board;
-use xl_heartbeat::{BeatEnd, Bulletin, Pulse, beat_and_tell};
+use xl_heartbeat::{BeatEnd, Bulletin, Pulse, beat};
 use xl_io::{Keeper, Sink};
 use xl_ledger::Branch;
 use xl_links::{Clock, Gate, Link};
@@ -79,7 +79,7 @@ fn beat_on<W: Wait, B: Branch + Drop, K: Keeper + Drop, O: Sink, C: Clock, D: Bo
         (known pass.new) (output (O.held sink.new) (O.faults sink.new)) }
     ensures told { ToldIf D.show_gives (start_of store.now) bulletin.old (known pass.new).seen bulletin.new }
 {
-    let left = beat_and_tell(rt, store, clock, sink, pulse, bulletin.take(), pass);
+    let left = beat(rt, store, clock, sink, pulse, bulletin.take(), pass);
     *bulletin = left.bulletin;
     left.end
 }

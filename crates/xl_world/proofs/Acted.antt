@@ -9,7 +9,7 @@ use Rattle.xl_world.specs.declared.place.Place.{Place}
 use Rattle.xl_world.specs.Emptying.{event_steps}
 use Rattle.xl_world.specs.Schedule.{told_in}
 use Rattle.xl_world.specs.Rested.{IsAtRest, IsRested}
-use Rattle.xl_world.specs.Seen.{Answers, AnswersAt, IsAnswer, MayDo, acted_at, noted, outcomes_told, place_after, with_forged, with_places}
+use Rattle.xl_world.specs.Seen.{Answers, AnswersAt, IsAnswer, MayDo, acted_at, after_note, outcomes_told, place_after, with_forged, with_places}
 use Rattle.xl_world.specs.World.{World, place_at, reply_at, run, sent_in}
 use Rattle.xl_world.proofs.Acting.{acted_rests, noted_ran}
 use Rattle.xl_world.proofs.Emptying.{emptied_acts, event_ran}
@@ -61,10 +61,10 @@ acted_rest w i e fate after a acted rest p h = acted_rests w i e fate rest p (ap
 
 -- that is noted as the steps of the event leave it
 pub acted_ran : (w u : World) (i : ℕ) (e : CoreEvent) (fate : Fate) (after : List Place) (a : NodeAnswer) → u ≡ w → IsActed w i e fate after a → ((p : Place) (from : ℕ) → sent_in from (reply_at p e fate).answer ≡ []) →
-    noted (with_places u after) i a ≡ with_forged w.forged (run w (event_steps w i e fate))
+    after_note (with_places u after) i a ≡ with_forged w.forged (run w (event_steps w i e fate))
 acted_ran w u i e fate after a same acted unsent =
-    ap (λ (v : World). noted (with_places v after) i a) same
-    ∙ (ap (λ (ps : List Place). noted (with_places w ps) i a) acted.places ∙ noted_ran w i e fate a acted.answer unsent)
+    ap (λ (v : World). after_note (with_places v after) i a) same
+    ∙ (ap (λ (ps : List Place). after_note (with_places w ps) i a) acted.places ∙ noted_ran w i e fate a acted.answer unsent)
 
 pub acted_told : (w : World) (i : ℕ) (e : CoreEvent) (fate : Fate) (after : List Place) (a : NodeAnswer) → IsActed w i e fate after a → outcomes_told i a ≡ told_in w (event_steps w i e fate)
 acted_told w i e fate after a acted = told_ran w i e fate a acted.answer

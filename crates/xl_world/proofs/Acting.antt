@@ -38,8 +38,8 @@ use Rattle.xl_world.specs.Forgeries.{forges, was_sent}
 use Rattle.xl_world.specs.Disk.{answer_of}
 use Rattle.xl_world.specs.Rested.{IsAtRest, IsRested}
 use Rattle.xl_world.specs.Schedule.{ask_steps, delivery, event_asked, node_asked}
-use Rattle.xl_world.specs.Seen.{Answers, AnswersAt, acted_at, deed_event, forged_at, given_at, list_noted, noted, place_after, place_drained, put_acted, put_drained, report_noted, with_forged, with_places}
-use Rattle.xl_world.specs.World.{Step, World, is_forged, disk_after, place_at, put, reply_at, reported_by, run, said_by, sent_in, set_by}
+use Rattle.xl_world.specs.Seen.{Answers, AnswersAt, acted_at, deed_event, forged_at, given_at, list_noted, after_note, place_after, place_drained, put_acted, put_drained, report_noted, with_forged, with_places}
+use Rattle.xl_world.specs.World.{Step, World, is_forged, disk_after, place_at, put_place, reply_at, reported_by, run, said_by, sent_in, set_by}
 use Rattle.xl_world.proofs.CoreSteps.{frame_plain, issue_plain}
 use Rattle.xl_world.proofs.Emptying.{emptied_acts, emptied_node, emptied_then, event_ran, given_then}
 use Rattle.xl_world.proofs.Keeping.{core_keeps}
@@ -81,15 +81,15 @@ same_all w {p} {p'} {f} {f'} {s} {s'} {r} {r'} {l} {l'} a b c d e =
 
 -- the node of a number answers, and that is noted
 pub noted_ran : (w : World) (i : ℕ) (e : CoreEvent) (fate : Fate) (a : NodeAnswer) → AnswersAt i e fate w.places (Some a) → ((p : Place) (from : ℕ) → sent_in from (reply_at p e fate).answer ≡ []) →
-    noted (with_places w (acted_at i e fate w.places)) i a ≡ with_forged w.forged (run w (event_steps w i e fate))
+    after_note (with_places w (acted_at i e fate w.places)) i a ≡ with_forged w.forged (run w (event_steps w i e fate))
 noted_ran w i e fate a answers unsent = by_place (place_at i w.places) refl answers ∙ ap (with_forged w.forged) (sym (event_ran w i e fate))
   where
-    by_place : (o : Option Place) → place_at i w.places ≡ o → Answers e fate o (Some a) → noted (with_places w (put_acted e fate o w.places)) i a ≡ with_forged w.forged (emptied_acts w i e fate o)
+    by_place : (o : Option Place) → place_at i w.places ≡ o → Answers e fate o (Some a) → after_note (with_places w (put_acted e fate o w.places)) i a ≡ with_forged w.forged (emptied_acts w i e fate o)
     by_place None at never = absurd never
     by_place (Some p) at is =
         let r : CoreReply = reply_at p e fate in
         let q : Place = place_after p e fate in
-        let ps : List Place = put q w.places in
+        let ps : List Place = put_place q w.places in
         let its : q.core.node.me ≡ i = (core_keeps p.core e (answer_of p.disk fate)).0 ∙ at_its_number i w.places p at in
         let found : place_at i ps ≡ Some q = put_at i q w.places p its at in
         let last : Place = place_drained w.numbers q in

@@ -32,11 +32,11 @@ use Rattle.xl_core.specs.declared.settings.Settings.{Settings}
 use Rattle.xl_core.specs.declared.refusal.Refusal.TheVariants.{NotAfter}
 use Rattle.xl_core.specs.Answers.{Done, Gave}
 use Rattle.xl_core.proofs.Greeted.{given_all}
-use Rattle.xl_core.specs.Core.{Core, CoreReply, greeted_frames, given_for, answering, core_happens, stepped, with_queues}
+use Rattle.xl_core.specs.Core.{Core, CoreReply, greeted_frames, given_for, core_reply, core_happens, after_reply, with_queues}
 use Rattle.xl_core.proofs.Frames.{hearing_either}
-use Rattle.xl_core.specs.Items.{is_own, body_in, framed, frame_of, header_body_at}
+use Rattle.xl_core.specs.Items.{is_own, body_in, frame_for, frame_of, header_body_at}
 use Rattle.xl_core.specs.Node as nodes
-use Rattle.xl_core.specs.Node.{Node, Event, Reply, Save, at_moment, own_validation, issued_unless_off, refusing, issuing_reply, replying, timer_reply, timer_outcome, validates, validating_built, placing, placed_as, taken_reply, bytes_reply, happens, items_of, opened}
+use Rattle.xl_core.specs.Node.{Node, Event, Reply, Save, at_moment, own_validation, issued_unless_off, refusing_reply, issuing_reply, reply_with, timer_reply, timer_outcome, validates, validating_built, proposal_answer, placed_as, taken_reply, bytes_reply, happens, items_of, opened_node}
 use Rattle.xl_core.specs.Issuing.Save.{Kept as AnsweredOk, Failed as AnsweredFailed}
 use Rattle.xl_core.specs.Queues.{after_taking, at_number, frames_in, waiting_at, with_items}
 use Rattle.xl_wire.specs.declared.body.Body.TheVariants as bodies
@@ -60,7 +60,7 @@ use Rattle.xl_world.proofs.Settling.{ReplySays, node_reply, seat}
 -- THE NODE OF THE CORE
 
 -- what an event at the node shows is shown at its core
-lifted : (core : Core) (k k' : Disk) (r : Reply) → IsStep (seat core k) r k' → IsStep (seat core k) (node_reply (stepped core r)) k'
+lifted : (core : Core) (k k' : Disk) (r : Reply) → IsStep (seat core k) r k' → IsStep (seat core k) (node_reply (after_reply core r)) k'
 lifted core k k' r s = record { me = s.me; well = s.well; rises = s.rises; above = s.above; saved = s.saved; quorum = s.quorum }
 
 -- the node is as it was
@@ -86,7 +86,7 @@ core_steps p (Relist now list) fate fit well =
 
 -- a core that is opened again with a number that is not below its disk's
 pub opened_core_steps : (p : Place) (now number : ℕ) (asked : Option ℕ) → IsWell (seat p.core p.disk) → (i : ℕ) × (i ≤ number) × MayHold (held_by p.disk) i →
-    IsStep (seat p.core p.disk) (node_reply (answering (core_again p now number) Done)) (restored (record p.disk { asked = asked }) number)
+    IsStep (seat p.core p.disk) (node_reply (core_reply (core_again p now number) Done)) (restored (record p.disk { asked = asked }) number)
 opened_core_steps p now number asked well low =
     let s = opened_steps (seat p.core p.disk) now number well low in
     record { me = s.me; well = record { members = s.well.members; valid = s.well.valid; in_force = s.well.in_force }; rises = s.rises; above = s.above; saved = s.saved; quorum = s.quorum }
@@ -115,18 +115,18 @@ place_sends from (Err why) = refl
 taking_plain : (n : Node) (from : ℕ) (what : Speech) → IsPlain (taken_reply n from what)
 taking_plain n from (speech.Validation v) = record { items = refl; sent = λ _. refl }
 taking_plain n from (speech.Header h) = record { items = refl; sent = λ _. refl }
-taking_plain n from (speech.Proposal p) = record { items = refl; sent = λ me. place_sends me (placing n from p) }
+taking_plain n from (speech.Proposal p) = record { items = refl; sent = λ me. place_sends me (proposal_answer n from p) }
 taking_plain n from (speech.TxSet ids) = record { items = refl; sent = λ _. refl }
 taking_plain n from (speech.Tx tx) = record { items = refl; sent = λ _. refl }
 
 issuing_plain : (n : Node) (seq : ℕ) (id : LedgerId) (full : Bool) (save : Save) → IsPlain (issuing_reply n seq id full save)
 issuing_plain n seq id full save =
-    cond_both (nat_lt n.kept seq) (issued_unless_off n n.failed_save save (own_validation n seq id full)) (refusing n (NotAfter n.kept)) IsPlain
+    cond_both (nat_lt n.kept seq) (issued_unless_off n n.failed_save save (own_validation n seq id full)) (refusing_reply n (NotAfter n.kept)) IsPlain
     (λ _. issues_plain n n.failed_save save (own_validation n seq id full)) (λ _. record { items = refl; sent = λ _. refl })
 
 validating_plain : (n : Node) (h : Header) (moved_on : Bool) (save : Save) → IsPlain (validating_built n h moved_on save)
 validating_plain n h moved_on save =
-    cond_both (validates n moved_on) (issuing_reply n h.seq (header_id h) (is_proposing n.round.setting.mode) save) (replying n Done []) IsPlain
+    cond_both (validates n moved_on) (issuing_reply n h.seq (header_id h) (is_proposing n.round.setting.mode) save) (reply_with n Done []) IsPlain
     (λ _. issuing_plain n h.seq (header_id h) (is_proposing n.round.setting.mode) save) (λ _. record { items = refl; sent = λ _. refl })
 
 pub issue_plain : (n : Node) (now seq : ℕ) (id : LedgerId) (full : Bool) (save : Save) → IsPlain (happens n (nodes.Issue now seq id full) save)
@@ -192,7 +192,7 @@ items_say P me (item ∷ items) waiting fair says =
 
 -- an event at the node
 node_says : (P : SaidLedger → Type 0) (core : Core) (e : Event) (save : Save) → CoreSays P core → HeardSays P core.node e → IfSome (happens core.node e save).issued (λ v. P (said_by core.node.me v)) →
-    ReplySays P (stepped core (happens core.node e save))
+    ReplySays P (after_reply core (happens core.node e save))
 node_says P core e save says heard fair =
     let r : Reply = happens core.node e save in
     let its = happens_fair P core.node.me core.node e save in
@@ -255,7 +255,7 @@ body_says P ring from to (bodies.Header header) h says = subst (λ o. IfSome o P
 body_says P ring from to (bodies.TxSet ids) h says = subst (λ o. IfSome o P) (sym (sealed_else ring from to (bodies.TxSet ids) h refl)) tt
 body_says P ring from to (bodies.Tx id) h says = subst (λ o. IfSome o P) (sym (sealed_else ring from to (bodies.Tx id) h refl)) tt
 
-framed_says : (P : SaidLedger → Type 0) (n : Node) (to : ℕ) (o : Option Body) (rest : List (Option (List ℕ))) → IfSome o (BodySays P n.me) → All (BytesSay P) (frames_in rest) → All (BytesSay P) (frames_in (option_and_then (framed n to) o ∷ rest))
+framed_says : (P : SaidLedger → Type 0) (n : Node) (to : ℕ) (o : Option Body) (rest : List (Option (List ℕ))) → IfSome o (BodySays P n.me) → All (BytesSay P) (frames_in rest) → All (BytesSay P) (frames_in (option_and_then (frame_for n to) o ∷ rest))
 framed_says P n to None rest says each = each
 framed_says P n to (Some body) rest says each =
     cond_both (has_spelling n.me to body) (Some (sealed_bytes n.keys n.me to body)) None (λ o. All (BytesSay P) (frames_in (o ∷ rest)))
@@ -269,7 +269,7 @@ frames_say P n to (item ∷ items) says =
     (frames_say P n to items (All-tail (ItemSays P n.me) item items says))
 
 -- the frame of a header says nothing
-header_says : (P : SaidLedger → Type 0) (n : Node) (to ledger : ℕ) → IfSome (framed n to (header_body_at n ledger)) (BytesSay P)
+header_says : (P : SaidLedger → Type 0) (n : Node) (to ledger : ℕ) → IfSome (frame_for n to (header_body_at n ledger)) (BytesSay P)
 header_says P n to ledger =
     cond_both (has_spelling n.me to (header_body_at n ledger)) (Some (sealed_bytes n.keys n.me to (header_body_at n ledger))) None (λ o. IfSome o (BytesSay P))
     (λ spelled. body_says P n.keys n.me to (header_body_at n ledger) spelled tt) (λ _. tt)
@@ -309,7 +309,7 @@ core_says P core Stopped save says heard fair = record { core = says; sent = All
 core_says P core (Relist now list) save says heard fair = node_says P core (nodes.Relist now list) save says tt fair
 
 -- a core that is opened has nothing
-pub opened_core_says : (P : SaidLedger → Type 0) (settings : Settings) (now kept : ℕ) → CoreSays P (with_queues (opened settings now kept))
+pub opened_core_says : (P : SaidLedger → Type 0) (settings : Settings) (now kept : ℕ) → CoreSays P (with_queues (opened_node settings now kept))
 opened_core_says P settings now kept = record { rows = opened_says P settings now kept; items = nothing_waits 64 }
   where
     nothing_waits : (n : ℕ) → AllSay P settings.me (replicate n no_items)

@@ -4,7 +4,7 @@ use Rattle.std.specs.Prelude.{OnOk, option_map, option_to_list}
 use Rattle.xl_io.specs.Keepers.{may_hold}
 use Rattle.xl_core.specs.Core.{Core, CoreReply, core_asks, core_happens, with_queues}
 use Rattle.xl_core.specs.Node as nodes
-use Rattle.xl_core.specs.Node.{Node, Event, Reply, Save, happens, opened, settings_of}
+use Rattle.xl_core.specs.Node.{Node, Event, Reply, Save, happens, opened_node, settings_of}
 use Rattle.xl_core.specs.Issuing.Save.{Kept as AnsweredOk}
 use Rattle.xl_core.specs.declared.event.CoreEvent.{CoreEvent}
 use Rattle.xl_core.specs.declared.event.CoreEvent.TheVariants.{Issue, Timer}
@@ -21,8 +21,8 @@ use Rattle.xl_world.specs.declared.place.Place.{Place}
 use Rattle.xl_world.specs.Emptying.{event_steps}
 use Rattle.xl_world.specs.Disk.{after_save, answer_of, found, held_by, left_by, restored}
 use Rattle.xl_world.specs.Schedule.{cut_at, cut_short, cut_steps, event_asked, node_asked, outcomes_at, restart, steps_at, told_in, told_of_reply}
-use Rattle.xl_world.specs.Seen.{Answers, AnswersAt, acted_at, disk_in, noted, outcomes_told, place_after, place_again, put_acted, put_again, with_forged, with_places}
-use Rattle.xl_world.specs.World.{Again, Step, World, is_forged, disk_after, moment_in, place_at, put, reply_at, run, sent_in, step, set_by}
+use Rattle.xl_world.specs.Seen.{Answers, AnswersAt, acted_at, disk_in, after_note, outcomes_told, place_after, place_again, put_acted, put_again, with_forged, with_places}
+use Rattle.xl_world.specs.World.{Again, Step, World, is_forged, disk_after, moment_in, place_at, put_place, reply_at, run, sent_in, step, set_by}
 use Rattle.xl_world.proofs.Acting.{asked_fair, noted_ran}
 use Rattle.xl_world.proofs.Emptying.{emptied, emptied_acts, emptied_node, emptied_then, event_ran}
 use Rattle.xl_world.proofs.Keeping.{KeepsList, asking_keeps}
@@ -59,9 +59,9 @@ acted_again ps i at e fate k p s here asks =
     let its : q.core.node.me ≡ i = (core_keeps p.core e (answer_of p.disk fate)).0 ∙ at_its_number i ps p here in
     let anew : Place = place_again q at k in
     ap (λ o. put_again at k (place_at i (put_acted e fate o ps)) (put_acted e fate o ps)) here
-    ∙ (ap (λ o. put_again at k o (put q ps)) (put_at i q ps p its here)
+    ∙ (ap (λ o. put_again at k o (put_place q ps)) (put_at i q ps p its here)
     ∙ (put_put q anew ps refl
-    ∙ (ap (λ (settings : Settings). put (let x : Place = record { core = with_queues (opened settings at k.in_force); disk = k } in x) ps) (settings_stay p.core e (answer_of p.disk fate) s asks)
+    ∙ (ap (λ (settings : Settings). put_place (let x : Place = record { core = with_queues (opened_node settings at k.in_force); disk = k } in x) ps) (settings_stay p.core e (answer_of p.disk fate) s asks)
     ∙ sym (ap (λ o. put_again at k o ps) here))))
 
 -- A SAVE THAT IS CUT OFF
@@ -94,7 +94,7 @@ tried w i e fate p here asks fair =
     ∙ sym (event_ran w i e Saved ∙ ap (λ o. emptied_acts w i e Saved o) here)))))
 
 pub cut_noted : (w : World) (i : ℕ) (e : CoreEvent) (fate : Fate) (p : Place) (a : NodeAnswer) → place_at i w.places ≡ Some p → core_asks p.core e ≡ None → is_forged w p.core.node e ≡ false →
-    AnswersAt i e fate w.places (Some a) → ((x : Place) (from : ℕ) → sent_in from (reply_at x e fate).answer ≡ []) → noted (with_places w (acted_at i e fate w.places)) i a ≡ run w (event_steps w i e Saved)
+    AnswersAt i e fate w.places (Some a) → ((x : Place) (from : ℕ) → sent_in from (reply_at x e fate).answer ≡ []) → after_note (with_places w (acted_at i e fate w.places)) i a ≡ run w (event_steps w i e Saved)
 cut_noted w i e fate p a here asks fair answers unsent = noted_ran w i e fate a answers unsent ∙ tried w i e fate p here asks fair
 
 -- the node is opened again then
@@ -175,7 +175,7 @@ pub record IsUncut (w v : World) (told : List Outcome) (steps : List Step) (all 
   pub tells : told ≡ all
 
 pub cuts_none : (w v : World) (at : ℕ) (new : Bool) (a_ask : Ask) (i : ℕ) (e : CoreEvent) (fate : Fate) (k : Disk) (a : NodeAnswer) → i ≡ node_asked a_ask → e ≡ event_asked at a_ask → Some k ≡ disk_in i w.places →
-    AnswersAt i e fate w.places (Some a) → a.asked ≡ None → ((x : Place) (from : ℕ) → sent_in from (reply_at x e fate).answer ≡ []) → v ≡ noted (with_places w (acted_at i e fate w.places)) i a →
+    AnswersAt i e fate w.places (Some a) → a.asked ≡ None → ((x : Place) (from : ℕ) → sent_in from (reply_at x e fate).answer ≡ []) → v ≡ after_note (with_places w (acted_at i e fate w.places)) i a →
     IsUncut w (with_places v (put_again at (restored k (found k)) (place_at i v.places) v.places)) (outcomes_told i a) (steps_at w at (what.Cut new a_ask)) (outcomes_at w at (what.Cut new a_ask))
 cuts_none w v at new a_ask i e fate k a its is held answers asked unsent noted_so = by_place (place_at i w.places) refl held answers
   where

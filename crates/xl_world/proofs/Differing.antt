@@ -9,7 +9,7 @@ use Rattle.std.proofs.lemmas.List.Elements.{All-nil, All-cons, All-push, All-wea
 use Rattle.xl_base.specs.Ids.{same_id}
 use Rattle.xl_lists.specs.declared.report.Report.{Report}
 use Rattle.xl_lists.proofs.Agreement.{same_id-true, same_id_itself}
-use Rattle.xl_world.specs.Forks.{Fork, opposed, fork_after, IsFork, NoForkAgrees, ForkDiffers}
+use Rattle.xl_world.specs.Forks.{Fork, opposing_report, fork_after, IsFork, NoForkAgrees, ForkDiffers}
 use Rattle.xl_world.proofs.Opposing.{fork_of}
 
 -- what is not found fails the test everywhere
@@ -50,7 +50,7 @@ agreed q x h same =
           let never : true ≡ false = sym both ∙ h in cc
     ]
 
-one_more : (done : List Report) (x : Report) → opposed done x ≡ None → AllOne done → AllOne (done ++ x ∷ [])
+one_more : (done : List Report) (x : Report) → opposing_report done x ≡ None → AllOne done → AllOne (done ++ x ∷ [])
 one_more done x none ones =
     let with_x : All (λ q. OneLedger q x) done = All-weaker (λ q. (q.seq == x.seq && not (same_id q.id x.id)) ≡ false) (λ q. OneLedger q x) (λ q. agreed q x) done (none_passes _ done none) in
     let of_x : All (OneLedger x) done = All-weaker (λ q. OneLedger q x) (OneLedger x) (λ q. back q x) done with_x in
@@ -66,7 +66,7 @@ none_of_both x (Some q) rest h = cc
 all_one : (done left : List Report) → AllOne done → fork_after done left ≡ None → AllOne (done ++ left)
 all_one done [] ones none = subst AllOne (sym (append-nil done)) ones
 all_one done (x ∷ left) ones none =
-    let both = none_of_both x (opposed done x) (fork_after (done ++ x ∷ []) left) none in
+    let both = none_of_both x (opposing_report done x) (fork_after (done ++ x ∷ []) left) none in
     subst AllOne (append_assoc done (x ∷ []) left) (all_one (done ++ x ∷ []) left (one_more done x both.0 ones) both.1)
 
 pub no_fork_agrees : NoForkAgrees
@@ -78,7 +78,7 @@ one_of_both x None rest fork h = inr h
 one_of_both x (Some q) rest fork h = inl (q, refl, cc)
 
 -- a report and the one that opposes it
-opposed_differs : (done : List Report) (x : Report) (left : List Report) (q : Report) → opposed done x ≡ Some q → IsFork (done ++ x ∷ left) (fork_of q x)
+opposed_differs : (done : List Report) (x : Report) (left : List Report) (q : Report) → opposing_report done x ≡ Some q → IsFork (done ++ x ∷ left) (fork_of q x)
 opposed_differs done x left q at =
     let found = found_passes (λ r. r.seq == x.seq && not (same_id r.id x.id)) done q at in
     let parts = and_parts (q.seq == x.seq) (not (same_id q.id x.id)) found.1 in
@@ -95,7 +95,7 @@ opposed_differs done x left q at =
 differs : (done left : List Report) (fork : Fork) → fork_after done left ≡ Some fork → IsFork (done ++ left) fork
 differs done [] fork at = cc
 differs done (x ∷ left) fork at =
-    elim (one_of_both x (opposed done x) (fork_after (done ++ x ∷ []) left) fork at) [
+    elim (one_of_both x (opposing_report done x) (fork_after (done ++ x ∷ []) left) fork at) [
       | inl (q, here, is) ↦ subst (IsFork (done ++ x ∷ left)) is (opposed_differs done x left q here)
       | inr there ↦ subst (λ reports. IsFork reports fork) (append_assoc done (x ∷ []) left) (differs (done ++ x ∷ []) left fork there)
     ]

@@ -8,15 +8,15 @@ use Rattle.xl_ledger.specs.Headers.{header_id}
 use Rattle.xl_ledger.specs.Registries.{Ledgers}
 use Rattle.xl_ledger.specs.declared.header.Header.{Header}
 use Rattle.xl_rounds.specs.Heartbeats.{HeartbeatReply, heartbeat}
-use Rattle.xl_rounds.specs.Proposals.{started}
-use Rattle.xl_rounds.specs.Rounds.{Round, accepted, is_proposing, leave}
+use Rattle.xl_rounds.specs.Proposals.{started_round}
+use Rattle.xl_rounds.specs.Rounds.{Round, accepted_round, is_proposing, leave}
 use Rattle.xl_rounds.specs.declared.phase.Mode.TheVariants.{SwitchedLedger}
 use Rattle.xl_rounds.specs.declared.heartbeat.HeartbeatKind.{HeartbeatKind}
 use Rattle.xl_rounds.specs.declared.heartbeat.HeartbeatKind.TheVariants as kind
 use Rattle.xl_rounds.specs.declared.heartbeat.Said.{Said}
 use Rattle.xl_tags.specs.Rings.{key_of, schedule_ring}
 use Rattle.xl_core.specs.Answers.{Done as AnsweredDone, refusal_in}
-use Rattle.xl_core.specs.Building.{Knowing, alone, how_issued, knowing}
+use Rattle.xl_core.specs.Building.{Knowing, alone, how_issued, knowing_of}
 use Rattle.xl_core.specs.Core.{Core, CoreReply, core_asks, core_happens}
 use Rattle.xl_core.specs.Hearing.{bytes_as_sealed}
 use Rattle.xl_core.specs.Keeping.{Saves}
@@ -24,7 +24,7 @@ use Rattle.xl_core.specs.Deeds.{CountsFailure, Happens, save_told}
 use Rattle.xl_core.specs.Deeds.{answer_of as told_as}
 use Rattle.xl_core.specs.declared.core_answer.CoreAnswer.{CoreAnswer}
 use Rattle.xl_core.specs.Node as nodes
-use Rattle.xl_core.specs.Node.{Node, Reply, Save, TimerOutcome, heartbeat_outcome, asks_for, at_moment, built, built_outcome, chosen, timer_reply, built_reply, kind_outcome, happens, bytes_reply, is_kept, issued_unless_off, issuing_reply, own_validation, refusing, replying, seen, switch_outcome, taken_reply, timer_outcome, validates, validating_built}
+use Rattle.xl_core.specs.Node.{Node, Reply, Save, TimerOutcome, heartbeat_outcome, asks_for, at_moment, next_header, built_outcome, chosen, timer_reply, built_reply, kind_outcome, happens, bytes_reply, is_kept, issued_unless_off, issuing_reply, own_validation, refusing_reply, reply_with, seen_of, switch_outcome, taken_reply, timer_outcome, validates, validating_built}
 use Rattle.xl_core.specs.Issuing.Save.{Kept as AnsweredOk, Failed as AnsweredFailed}
 use Rattle.xl_core.specs.Timer.TimerOutcome.{Quiet, Ending}
 use Rattle.xl_core.specs.declared.timer_answer.TimerAnswer.{TimerAnswer}
@@ -133,21 +133,21 @@ module _ (P : TimerOutcome → Type 0) (n : Node)
     (ends : (ledgers : Ledgers) (r : Round) (said : Option Said) (h : Header) (place : ℕ) (moved_on : Bool) → P (Ending (record n { ledgers = ledgers; round = r }) said h place moved_on)) where
   after_building : (r : Round) (said : Option Said) (moved_on : Bool) (o : Option Knowing) → P (built_outcome (record n { round = r }) said moved_on o)
   after_building r said moved_on None = quiet r (timer_answer.NoRoom n.ledgers.limit) said (λ _. refl)
-  after_building r said moved_on (Some k) = ends k.ledgers (accepted (unwrap_or r.ready 0) r) said (built (record n { round = r })) k.place moved_on
+  after_building r said moved_on (Some k) = ends k.ledgers (accepted_round (unwrap_or r.ready 0) r) said (next_header (record n { round = r })) k.place moved_on
 
   after_kind : (r : Round) (said : Option Said) (k : HeartbeatKind) → P (kind_outcome (record n { round = r }) said k)
   after_kind r said kind.Nothing = quiet r timer_answer.Nothing said (λ _. refl)
   after_kind r said kind.Closed = quiet r timer_answer.Closed said (λ _. refl)
   after_kind r said kind.Updated = quiet r timer_answer.Updated said (λ _. refl)
-  after_kind r said (kind.Ready moved_on) = after_building r said moved_on (knowing n.ledgers (built (record n { round = r })))
+  after_kind r said (kind.Ready moved_on) = after_building r said moved_on (knowing_of n.ledgers (next_header (record n { round = r })))
 
   timed_by : P (timer_outcome n)
   timed_by =
-      let turn : HeartbeatReply = heartbeat n.time (seen n) n.round in
+      let turn : HeartbeatReply = heartbeat n.time (seen_of n) n.round in
       let ledgers = n.ledgers.headers in
       cond_both (chosen n == n.round.setting.previous) (heartbeat_outcome n turn) (switch_outcome n (chosen n)) P
       (λ _. after_kind turn.round turn.answer.said turn.answer.kind)
-      (λ _. quiet (started ledgers (chosen n) SwitchedLedger n.time n.round) (timer_answer.Switched (seq_at ledgers (chosen n)) (id_at ledgers (chosen n))) (alone (leave n.time n.round)) (λ _. refl))
+      (λ _. quiet (started_round ledgers (chosen n) SwitchedLedger n.time n.round) (timer_answer.Switched (seq_at ledgers (chosen n)) (id_at ledgers (chosen n))) (alone (leave n.time n.round)) (λ _. refl))
 
 -- what is told of a built ledger is what was issued
 abbrev TellsIssued : ℕ → LedgerId → Reply → Type 0
@@ -161,11 +161,11 @@ unless_told n (Some failed) save seq id full member = refl
 
 issuing_told : (n : Node) (seq : ℕ) (id : LedgerId) (full : Bool) (save : Save) → TellsIssued seq id (issuing_reply n seq id full save)
 issuing_told n seq id full save =
-    cond_both (nat_lt n.kept seq) (issued_unless_off n n.failed_save save (own_validation n seq id full)) (refusing n (why.NotAfter n.kept)) (TellsIssued seq id) (λ _. unless_told n n.failed_save save seq id full) (λ _ member. refl)
+    cond_both (nat_lt n.kept seq) (issued_unless_off n n.failed_save save (own_validation n seq id full)) (refusing_reply n (why.NotAfter n.kept)) (TellsIssued seq id) (λ _. unless_told n n.failed_save save seq id full) (λ _ member. refl)
 
 validating_told : (n : Node) (h : Header) (moved_on : Bool) (save : Save) → TellsIssued h.seq (header_id h) (validating_built n h moved_on save)
 validating_told n h moved_on save =
-    cond_both (validates n moved_on) (issuing_reply n h.seq (header_id h) (is_proposing n.round.setting.mode) save) (replying n AnsweredDone []) (TellsIssued h.seq (header_id h))
+    cond_both (validates n moved_on) (issuing_reply n h.seq (header_id h) (is_proposing n.round.setting.mode) save) (reply_with n AnsweredDone []) (TellsIssued h.seq (header_id h))
     (λ _. issuing_told n h.seq (header_id h) (is_proposing n.round.setting.mode) save) (λ _ member. refl)
 
 -- WHAT AN ANSWER TELLS
@@ -181,7 +181,7 @@ unless_said now n (Some failed) save seq id full member = refl
 
 issuing_said : (now : ℕ) (n : Node) (seq : ℕ) (id : LedgerId) (full : Bool) (save : Save) → TellsSaid (deed.Issue now seq id full) (issuing_reply n seq id full save)
 issuing_said now n seq id full save =
-    cond_both (nat_lt n.kept seq) (issued_unless_off n n.failed_save save (own_validation n seq id full)) (refusing n (why.NotAfter n.kept)) (TellsSaid (deed.Issue now seq id full)) (λ _. unless_said now n n.failed_save save seq id full) (λ _ member. refl)
+    cond_both (nat_lt n.kept seq) (issued_unless_off n n.failed_save save (own_validation n seq id full)) (refusing_reply n (why.NotAfter n.kept)) (TellsSaid (deed.Issue now seq id full)) (λ _. unless_said now n n.failed_save save seq id full) (λ _ member. refl)
 
 timer_said : (now : ℕ) (n : Node) (save : Save) → TellsSaid (deed.Timer now) (timer_reply (timer_outcome n) save)
 timer_said now n save =

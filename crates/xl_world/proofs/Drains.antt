@@ -20,11 +20,11 @@ use Rattle.xl_tags.specs.Sealing.{sealed}
 use Rattle.xl_core.specs.Answers.{given_in}
 use Rattle.xl_core.specs.Core.{Core, CoreReply, all_frames, core_happens, greeted_frames}
 use Rattle.xl_core.specs.Greetings.{greeting_at, greeting_frames, yet_to_hand}
-use Rattle.xl_core.specs.Items.{body_in, frame_of, framed, frames_for, header_body_at}
+use Rattle.xl_core.specs.Items.{body_in, frame_of, frame_for, frames_for, header_body_at}
 use Rattle.xl_core.specs.Node.{Node}
 use Rattle.xl_core.specs.Issuing.Save.{Kept as AnsweredOk}
-use Rattle.xl_core.specs.Queues.{fitting, frames_in, joined, waiting_at}
-use Rattle.xl_core.specs.Sending.{blank_frame, blanked, has_spelling, sealed_bytes}
+use Rattle.xl_core.specs.Queues.{count_fitting, frames_in, stream_of, waiting_at}
+use Rattle.xl_core.specs.Sending.{blank_frame, without_tag, has_spelling, sealed_bytes}
 use Rattle.xl_core.proofs.Blanks.{blanked_tag}
 use Rattle.xl_core.specs.declared.event.CoreEvent.{CoreEvent}
 use Rattle.xl_core.specs.declared.event.CoreEvent.TheVariants.{Drain}
@@ -45,7 +45,7 @@ abbrev IsOneFrame : List ℕ → Type 0
 IsOneFrame bytes = (f : RawFrame) × SpellsRaw f bytes
 
 abbrev IsBlank : List ℕ → Type 0
-IsBlank bytes = IsOneFrame (blanked bytes)
+IsBlank bytes = IsOneFrame (without_tag bytes)
 
 blank_whole : (ring : Ring) (me to : ℕ) (body : Body) → has_spelling me to body ≡ true → IsBlank (sealed_bytes ring me to body)
 blank_whole ring me to body spelled =
@@ -53,7 +53,7 @@ blank_whole ring me to body spelled =
     let s = sealed_raw ring me to body spelled in
     (f, record { frame = record { lawful = s.lawful; from = s.from; to = s.to; tag = refl }; spelling = blanked_tag f (sealed ring f).tag s.tag })
 
-framed_whole : (n : Node) (to : ℕ) (body : Body) → IfSome (framed n to body) IsBlank
+framed_whole : (n : Node) (to : ℕ) (body : Body) → IfSome (frame_for n to body) IsBlank
 framed_whole n to body =
     cond_both (has_spelling n.me to body) (Some (sealed_bytes n.keys n.me to body)) None (λ o. IfSome o IsBlank)
     (λ spelled. blank_whole n.keys n.me to body spelled) (λ _. tt)
@@ -63,10 +63,10 @@ module _ (P : List ℕ → Type 0) where
   abbrev pub IfIs : Option (List ℕ) → Type 0
   IfIs o = IfSome o P
 
-  item_is : (n : Node) (to : ℕ) → ((body : Body) → IfIs (framed n to body)) → (item : Item) → IfIs (frame_of n to item)
+  item_is : (n : Node) (to : ℕ) → ((body : Body) → IfIs (frame_for n to body)) → (item : Item) → IfIs (frame_of n to item)
   item_is n to each item = said (body_in n item)
     where
-      said : (o : Option Body) → IfIs (option_and_then (framed n to) o)
+      said : (o : Option Body) → IfIs (option_and_then (frame_for n to) o)
       said None = tt
       said (Some body) = each body
 
@@ -74,9 +74,9 @@ module _ (P : List ℕ → Type 0) where
   map_is h each [] = All-nil IfIs
   map_is h each (x ∷ xs) = All-cons IfIs (h x) (map h xs) (each x) (map_is h each xs)
 
-  greeting_is : (n : Node) (to : ℕ) → ((body : Body) → IfIs (framed n to body)) → (o : Option Greeting) → All IfIs (greeting_frames n o to)
+  greeting_is : (n : Node) (to : ℕ) → ((body : Body) → IfIs (frame_for n to body)) → (o : Option Greeting) → All IfIs (greeting_frames n o to)
   greeting_is n to each None = All-nil IfIs
-  greeting_is n to each (Some g) = map_is (λ ledger. framed n to (header_body_at n ledger)) (λ ledger. each (header_body_at n ledger)) (yet_to_hand n.ledgers.headers g)
+  greeting_is n to each (Some g) = map_is (λ ledger. frame_for n to (header_body_at n ledger)) (λ ledger. each (header_body_at n ledger)) (yet_to_hand n.ledgers.headers g)
 
   front_is : (n : ℕ) (fs : List (Option (List ℕ))) → All IfIs fs → All P (frames_in (take n fs))
   front_is zero fs all = All-nil P
@@ -84,20 +84,20 @@ module _ (P : List ℕ → Type 0) where
   front_is (suc n) (None ∷ fs) all = front_is n fs (All-tail IfIs None fs all)
   front_is (suc n) (Some f ∷ fs) all = All-cons P f (frames_in (take n fs)) (All-head IfIs (Some f) fs all) (front_is n fs (All-tail IfIs (Some f) fs all))
 
-  pub all_are : (core : Core) (m : ℕ) → ((body : Body) → IfIs (framed core.node m body)) → All IfIs (all_frames core m)
+  pub all_are : (core : Core) (m : ℕ) → ((body : Body) → IfIs (frame_for core.node m body)) → All IfIs (all_frames core m)
   all_are core m each =
       All-append IfIs (greeted_frames core m) (frames_for core.node core.waiting m) (greeting_is core.node m each (greeting_at core.greetings m))
       (map_is (frame_of core.node m) (item_is core.node m each) (waiting_at core.waiting m).items)
 
-  pub given_is : (core : Core) (m : ℕ) → ((body : Body) → IfIs (framed core.node m body)) → All P (given_in (drained_once core m).answer)
-  given_is core m each = front_is (fitting (all_frames core m) longest_frame) (all_frames core m) (all_are core m each)
+  pub given_is : (core : Core) (m : ℕ) → ((body : Body) → IfIs (frame_for core.node m body)) → All P (given_in (drained_once core m).answer)
+  given_is core m each = front_is (count_fitting (all_frames core m) longest_frame) (all_frames core m) (all_are core m each)
 
-each_blank : (fs : List (List ℕ)) → All IsBlank fs → AreFrames (map blanked fs)
+each_blank : (fs : List (List ℕ)) → All IsBlank fs → AreFrames (map without_tag fs)
 each_blank [] all = All-nil IsOneFrame
-each_blank (f ∷ fs) all = All-cons IsOneFrame (blanked f) (map blanked fs) (All-head IsBlank f fs all) (each_blank fs (All-tail IsBlank f fs all))
+each_blank (f ∷ fs) all = All-cons IsOneFrame (without_tag f) (map without_tag fs) (All-head IsBlank f fs all) (each_blank fs (All-tail IsBlank f fs all))
 
 -- what a drain gives is whole frames, with their tags cleared too
-pub given_whole : (core : Core) (m : ℕ) → AreFrames (map blanked (given_in (drained_once core m).answer))
+pub given_whole : (core : Core) (m : ℕ) → AreFrames (map without_tag (given_in (drained_once core m).answer))
 given_whole core m = each_blank (given_in (drained_once core m).answer) (given_is IsBlank core m (framed_whole core.node m))
 
 -- ONE FRAME AFTER THE OTHER
@@ -106,16 +106,16 @@ given_whole core m = each_blank (given_in (drained_once core m).answer) (given_i
 pub record IsUnsent (from to : ℕ) (each : List (List ℕ)) (before : Traffic) (rest : List ℕ) (now : Traffic) : Type 0 where
   pub left : List (List ℕ)
   pub frames : AreFrames left
-  pub joins : rest ≡ joined left
+  pub joins : rest ≡ stream_of left
   pub sent : with_frames before (map (sent_as from to) each) ≡ with_frames now (map (sent_as from to) left)
 
-pub unsent_all : (from to : ℕ) (each : List (List ℕ)) (traffic : Traffic) (bytes : List ℕ) → AreFrames each → bytes ≡ joined each → IsUnsent from to each traffic bytes traffic
+pub unsent_all : (from to : ℕ) (each : List (List ℕ)) (traffic : Traffic) (bytes : List ℕ) → AreFrames each → bytes ≡ stream_of each → IsUnsent from to each traffic bytes traffic
 unsent_all from to each traffic bytes are joins = record { left = each; frames = are; joins = joins; sent = refl }
 
 pub with_none : (traffic : Traffic) → with_frames traffic [] ≡ traffic
 with_none traffic = ap (λ (fs : List Sent). let t : Traffic = record { frames = fs; mark = traffic.mark } in t) (append-nil traffic.frames)
 
-with_then : (traffic : Traffic) (xs ys : List Sent) → with_frames (with_frames traffic xs) ys ≡ with_frames traffic (xs ++ ys)
+pub with_then : (traffic : Traffic) (xs ys : List Sent) → with_frames (with_frames traffic xs) ys ≡ with_frames traffic (xs ++ ys)
 with_then traffic xs ys = ap (λ (fs : List Sent). let t : Traffic = record { frames = fs; mark = traffic.mark } in t) (append_assoc traffic.frames xs ys)
 
 -- what is whole has at least its length
@@ -150,19 +150,19 @@ pub unsent_more : (from to : ℕ) (each : List (List ℕ)) (before now after : T
     IsFirstFrame n rest → bytes ≡ take n rest → after ≡ with_frame now (sent_as from to bytes) → IsUnsent from to each before (drop n rest) after
 unsent_more from to each before now after rest bytes n so first_one is sent_now = by_left so.left so.frames so.joins so.sent
   where
-    by_left : (left : List (List ℕ)) → AreFrames left → rest ≡ joined left → with_frames before (map (sent_as from to) each) ≡ with_frames now (map (sent_as from to) left) → IsUnsent from to each before (drop n rest) after
+    by_left : (left : List (List ℕ)) → AreFrames left → rest ≡ stream_of left → with_frames before (map (sent_as from to) each) ≡ with_frames now (map (sent_as from to) left) → IsUnsent from to each before (drop n rest) after
     by_left [] frames joins sent = absurd (omega (arith, first_one.within, first_one.some, ap length joins))
     by_left (f ∷ fs) frames joins sent =
         let first : IsOneFrame f = All-head IsOneFrame f fs frames in
         let g : RawFrame = first.0 in
         let spelled : SpellsRaw g f = first.1 in
-        let again : split_of rest ≡ Whole g = ap split_of (joins ∙ ap (λ (bs : List ℕ). bs ++ joined fs) spelled.spelling) ∙ split_again g (joined fs) spelled.frame in
+        let again : split_of rest ≡ Whole g = ap split_of (joins ∙ ap (λ (bs : List ℕ). bs ++ stream_of fs) spelled.spelling) ∙ split_again g (stream_of fs) spelled.frame in
         let its : length f ≡ n = ap length spelled.spelling ∙ (length-raw_bytes g spelled.frame.tag ∙ sym (first_one.long g again)) in
-        let front : take n rest ≡ f = ap (take n) joins ∙ take_at f (joined fs) n its in
+        let front : take n rest ≡ f = ap (take n) joins ∙ take_at f (stream_of fs) n its in
         record {
           left = fs;
           frames = All-tail IsOneFrame f fs frames;
-          joins = ap (drop n) joins ∙ drop_at f (joined fs) n its;
+          joins = ap (drop n) joins ∙ drop_at f (stream_of fs) n its;
           sent = sent
               ∙ (sym (with_then now (sent_as from to f ∷ []) (map (sent_as from to) fs))
               ∙ ap (λ (t : Traffic). with_frames t (map (sent_as from to) fs)) (ap (λ (bs : List ℕ). with_frame now (sent_as from to bs)) (sym (is ∙ front)) ∙ sym sent_now));
@@ -180,11 +180,11 @@ pub unsent_none : (from to : ℕ) (each : List (List ℕ)) (before now : Traffic
     now ≡ with_frames before (map (sent_as from to) each)
 unsent_none from to each before now rest so ends = by_left so.left so.frames so.joins so.sent
   where
-    by_left : (left : List (List ℕ)) → AreFrames left → rest ≡ joined left → with_frames before (map (sent_as from to) each) ≡ with_frames now (map (sent_as from to) left) → now ≡ with_frames before (map (sent_as from to) each)
+    by_left : (left : List (List ℕ)) → AreFrames left → rest ≡ stream_of left → with_frames before (map (sent_as from to) each) ≡ with_frames now (map (sent_as from to) left) → now ≡ with_frames before (map (sent_as from to) each)
     by_left [] frames joins sent = sym (sent ∙ with_none now)
     by_left (f ∷ fs) frames joins sent =
         let first : IsOneFrame f = All-head IsOneFrame f fs frames in
-        absurd (ends first.0 (ap split_of (joins ∙ ap (λ (bs : List ℕ). bs ++ joined fs) first.1.spelling) ∙ split_again first.0 (joined fs) first.1.frame))
+        absurd (ends first.0 (ap split_of (joins ∙ ap (λ (bs : List ℕ). bs ++ stream_of fs) first.1.spelling) ∙ split_again first.0 (stream_of fs) first.1.frame))
 
 -- ONE DRAIN AFTER THE OTHER
 
@@ -307,9 +307,9 @@ drained_past numbers k before core sent now m k_in is mine so =
     }
 
 -- what fills bytes is something
-pub some_given : (fs : List (List ℕ)) (count : ℕ) (room : List ℕ) → 0 < count → count ≤ length room → take count room ≡ joined (map blanked fs) → length fs ≡ 0 → ⊥
+pub some_given : (fs : List (List ℕ)) (count : ℕ) (room : List ℕ) → 0 < count → count ≤ length room → take count room ≡ stream_of (map without_tag fs) → length fs ≡ 0 → ⊥
 some_given fs count room some within joins none =
-    let nothing : length (joined (map blanked fs)) ≡ 0 = ap (λ (xs : List (List ℕ)). length (joined (map blanked xs))) (nil_from_length fs none) in
+    let nothing : length (stream_of (map without_tag fs)) ≡ 0 = ap (λ (xs : List (List ℕ)). length (stream_of (map without_tag xs))) (nil_from_length fs none) in
     omega (arith, some, within, ap length joins, length-take count room, nothing)
 
 -- where there is no frame at all, a front gives none

@@ -11,15 +11,15 @@ use Rattle.xl_core.specs.declared.event.CoreEvent.{CoreEvent}
 use Rattle.xl_core.specs.declared.the_core.greeting.Greeting.{Greeting}
 use Rattle.xl_core.specs.declared.item.Item.{Item}
 use Rattle.xl_core.specs.Answers.{given_in}
-use Rattle.xl_core.specs.Core.{Core, all_frames, core_happens, drained, given_for, greeted_frames}
+use Rattle.xl_core.specs.Core.{Core, all_frames, core_happens, after_drain, given_for, greeted_frames}
 use Rattle.xl_core.specs.Greetings.{further, further_at, greeting_at, greeting_frames}
 use Rattle.xl_core.specs.Items.{frame_of, frames_for}
 use Rattle.xl_core.specs.Node.{Node}
 use Rattle.xl_core.specs.Issuing.Save.{Kept as AnsweredOk}
-use Rattle.xl_core.specs.Queues.{after_taking, at_number, fitting, frames_in, joined, that_fit, waiting_at}
+use Rattle.xl_core.specs.Queues.{after_taking, at_number, count_fitting, frames_in, stream_of, that_fit, waiting_at}
 use Rattle.xl_core.proofs.Draining.{none_left}
 use Rattle.xl_core.proofs.Spelling.{framed_fits}
-use Rattle.xl_world.specs.Emptying.{after_events, drained_once, draining, drains, drains_for, drains_in_turn, others}
+use Rattle.xl_world.specs.Emptying.{after_events, drained_once, drains_of, drains, drains_for, drains_in_turn, others}
 use Rattle.xl_world.specs.Laws.{DrainsEmpty, LastGivesNothing}
 use Rattle.xl_world.proofs.Drains.{after_then, all_are, drains_end, drains_more}
 use Rattle.xl_world.proofs.Emptying.{AreDrains, drain_by, node_still, turns_are}
@@ -31,7 +31,7 @@ Frames = List (Option (List ℕ))
 -- IF NONE OF THEM IS A FRAME
 
 -- all fit, whatever the room
-none_fit : (fs : Frames) (room : ℕ) → frames_in fs ≡ [] → fitting fs room ≡ length fs
+pub none_fit : (fs : Frames) (room : ℕ) → frames_in fs ≡ [] → count_fitting fs room ≡ length fs
 none_fit [] room none = refl
 none_fit (None ∷ fs) room none = ap (λ (n : ℕ). suc n) (none_fit fs room none)
 none_fit (Some f ∷ fs) room none = cc
@@ -45,10 +45,10 @@ none_first (Some f ∷ gs) ws none = cc
 -- ONE DRAIN
 
 -- each frame fits into the room
-abbrev Fits : List ℕ → Type 0
+abbrev pub Fits : List ℕ → Type 0
 Fits f = (0 < length f) × (length f ≤ longest_frame)
 
-all_fit : (core : Core) (m : ℕ) → All (λ o. IfSome o Fits) (all_frames core m)
+pub all_fit : (core : Core) (m : ℕ) → All (λ o. IfSome o Fits) (all_frames core m)
 all_fit core m = all_are Fits core m (λ body. framed_fits core.node m longest_frame (Some body) (omega arith))
 
 -- that gives nothing leaves nothing
@@ -57,16 +57,16 @@ drained_empty core m none =
     let gs : Frames = greeted_frames core m in
     let ws : Frames = frames_for core.node core.waiting m in
     let fs : Frames = all_frames core m in
-    let nothing : frames_in fs ≡ [] = none_left fs longest_frame (all_fit core m) (ap (λ (xs : List (List ℕ)). length (joined xs)) none) in
+    let nothing : frames_in fs ≡ [] = none_left fs longest_frame (all_fit core m) (ap (λ (xs : List (List ℕ)). length (stream_of xs)) none) in
     let given : Frames = given_for core m longest_frame in
-    nil_from_length (all_frames (drained core m longest_frame) m) (omega (
+    nil_from_length (all_frames (after_drain core m longest_frame) m) (omega (
       arith,
       left_after core m longest_frame,
       none_fit gs longest_frame (none_first gs ws nothing),
       none_fit fs longest_frame nothing,
       length-append gs ws,
       length-drop (length gs) given,
-      length-take (fitting fs longest_frame) fs,
+      length-take (count_fitting fs longest_frame) fs,
     ))
 
 -- leaves what is left for another number
@@ -82,20 +82,20 @@ waiting_other waiting zero (suc p) change other = refl
 waiting_other waiting (suc j) (suc p) change other =
     get_or-set_other waiting j p (change (queue_of waiting j)) no_items (λ same. other (ap (λ (n : ℕ). suc n) same))
 
-other_left : (core : Core) (k m room : ℕ) → m ≢ k → all_frames (drained core k room) m ≡ all_frames core m
+other_left : (core : Core) (k m room : ℕ) → m ≢ k → all_frames (after_drain core k room) m ≡ all_frames core m
 other_left core k m room other =
-    let after : Core = drained core k room in
-    ap (λ (o : Option Greeting). greeting_frames core.node o m ++ frames_for core.node after.waiting m) (greeting_other core.greetings k m (fitting (greeted_frames core k) room) other)
+    let after : Core = after_drain core k room in
+    ap (λ (o : Option Greeting). greeting_frames core.node o m ++ frames_for core.node after.waiting m) (greeting_other core.greetings k m (count_fitting (greeted_frames core k) room) other)
     ∙ ap (λ (q : Backlog Item). greeted_frames core m ++ map (frame_of core.node m) q.items)
     (waiting_other core.waiting k m (after_taking (drop (length (greeted_frames core k)) (given_for core k room))) other)
 
 -- leaves nothing where nothing was left
-still_empty : (core : Core) (k m room : ℕ) → all_frames core m ≡ [] → all_frames (drained core k room) m ≡ []
+still_empty : (core : Core) (k m room : ℕ) → all_frames core m ≡ [] → all_frames (after_drain core k room) m ≡ []
 still_empty core k m room none = elim (cases_eq m k) [
   | inl same ↦
       let few : length (all_frames core m) ≡ 0 = ap (λ (fs : Frames). length fs) none in
-      subst (λ (j : ℕ). all_frames (drained core j room) m ≡ []) same
-      (nil_from_length (all_frames (drained core m room) m)
+      subst (λ (j : ℕ). all_frames (after_drain core j room) m ≡ []) same
+      (nil_from_length (all_frames (after_drain core m room) m)
       (omega (arith, left_after core m room, few, length-append (greeted_frames core m) (frames_for core.node core.waiting m))))
   | inr other ↦ other_left core k m room other ∙ none
 ]
@@ -144,13 +144,13 @@ among_others P me (n ∷ ns) all = elim (cases_Bool (n == me)) [
 
 pub drains_leave_nothing : DrainsEmpty
 drains_leave_nothing numbers core =
-    let es : List CoreEvent = draining numbers core in
+    let es : List CoreEvent = drains_of numbers core in
     let after : Core = after_events core es in
     subst (λ (n : Node). All (λ k. (k == n.me) ≡ false → all_frames after k ≡ []) numbers) (sym (node_still core es (turns_are core (others numbers core.node.me))))
     (among_others (λ k. all_frames after k ≡ []) core.node.me numbers (turns_empty core (others numbers core.node.me)))
 
 pub last_gives_nothing : LastGivesNothing
 last_gives_nothing numbers core =
-    let after : Core = after_events core (draining numbers core) in
+    let after : Core = after_events core (drains_of numbers core) in
     All-weaker (λ k. (k == after.node.me) ≡ false → all_frames after k ≡ []) (λ k. (k == after.node.me) ≡ false → given_in (drained_once after k).answer ≡ [])
     (λ k left other. ap (λ (fs : Frames). frames_in (that_fit fs longest_frame)) (left other)) numbers (drains_leave_nothing numbers core)

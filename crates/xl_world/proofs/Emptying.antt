@@ -17,10 +17,10 @@ use Rattle.xl_world.specs.declared.place.Fate.TheVariants.{Saved}
 use Rattle.xl_world.specs.declared.place.Disk.{Disk}
 use Rattle.xl_world.specs.declared.place.Place.{Place}
 use Rattle.xl_world.specs.Sending.{Sent}
-use Rattle.xl_world.specs.Emptying.{after_events, draining, drains, drains_for, drains_in_turn, emptying, emptying_at, event_steps, given_by, handed_out}
+use Rattle.xl_world.specs.Emptying.{after_events, drains_of, drains, drains_for, drains_in_turn, drains_and_report, emptying_at, event_steps, given_by, handed_out}
 use Rattle.xl_world.specs.Disk.{answer_of}
 use Rattle.xl_world.specs.declared.plan.InForce.{InForce}
-use Rattle.xl_world.specs.World.{World, Act, acts, is_forged, disk_after, place_at, put, reply_at, reported_by, run, said_by, sent_in, settled, step, set_by}
+use Rattle.xl_world.specs.World.{World, Act, acts, is_forged, disk_after, place_at, put_place, reply_at, reported_by, run, said_by, sent_in, settled_world, step, set_by}
 use Rattle.xl_world.proofs.Keeping.{core_keeps}
 use Rattle.xl_world.proofs.Putting.{put_at, put_put, put_same}
 use Rattle.xl_world.proofs.Settling.{at_its_number}
@@ -70,7 +70,7 @@ untaken_still core (e ∷ es) are =
 
 -- the world with a place changed, and with these frames sent
 abbrev pub moved : World → Place → List Sent → World
-moved w q frames = record { liars = w.liars; numbers = w.numbers; places = put q w.places; sent = w.sent ++ frames; mark = w.mark; said = w.said; reports = w.reports; lists = w.lists; forged = w.forged; spent = w.spent }
+moved w q frames = record { liars = w.liars; numbers = w.numbers; places = put_place q w.places; sent = w.sent ++ frames; mark = w.mark; said = w.said; reports = w.reports; lists = w.lists; forged = w.forged; spent = w.spent }
 
 -- what changes of a world
 abbrev with_lists : World → List Place → List Sent → List Reported → List InForce → World
@@ -88,13 +88,13 @@ drain_step w i p e at is =
     ap (λ o. acts w i e Saved o) at
     ∙ drain_by (λ d. acts w i d Saved (Some p) ≡ moved w (once p d) (frames_once p d))
     (λ m room.
-    ap (λ (rs : List Reported). with_lists w (put (once p (Drain m room)) w.places) (w.sent ++ frames_once p (Drain m room)) rs (w.lists ++ [])) (append-nil w.reports)
-    ∙ ap (λ (ls : List InForce). with_lists w (put (once p (Drain m room)) w.places) (w.sent ++ frames_once p (Drain m room)) w.reports ls) (append-nil w.lists)) e is
+    ap (λ (rs : List Reported). with_lists w (put_place (once p (Drain m room)) w.places) (w.sent ++ frames_once p (Drain m room)) rs (w.lists ++ [])) (append-nil w.reports)
+    ∙ ap (λ (ls : List InForce). with_lists w (put_place (once p (Drain m room)) w.places) (w.sent ++ frames_once p (Drain m room)) w.reports ls) (append-nil w.lists)) e is
 
 pub drains_run : (w : World) (i : ℕ) (p : Place) (es : List CoreEvent) → place_at i w.places ≡ Some p → AreDrains es →
     run w (map (λ e. Act i e Saved) es) ≡ moved w (record { core = after_events p.core es; disk = p.disk }) (given_by p.core es)
 drains_run w i p [] at are =
-    ap (λ (ps : List Place). with_lists w ps w.sent w.reports w.lists) (sym (put_same i w.places p at)) ∙ ap (λ (fs : List Sent). with_lists w (put p w.places) fs w.reports w.lists) (sym (append-nil w.sent))
+    ap (λ (ps : List Place). with_lists w ps w.sent w.reports w.lists) (sym (put_same i w.places p at)) ∙ ap (λ (fs : List Sent). with_lists w (put_place p w.places) fs w.reports w.lists) (sym (append-nil w.sent))
 drains_run w i p (e ∷ es) at are =
     let q : Place = once p e in
     let frames : List Sent = frames_once p e in
@@ -104,35 +104,35 @@ drains_run w i p (e ∷ es) at are =
     ap (λ (v : World). run v (map (λ d. Act i d Saved) es)) (drain_step w i p e at are.0)
     ∙ drains_run (moved w q frames) i q es (put_at i q w.places p number at) are.1
     ∙ ap (λ (ps : List Place). with_lists w ps ((w.sent ++ frames) ++ given_by q.core es) w.reports w.lists) (put_put q last w.places (ap (λ (n : Node). n.me) (node_still q.core es are.1)))
-    ∙ ap (λ (fs : List Sent). with_lists w (put last w.places) fs w.reports w.lists) (append_assoc w.sent frames (given_by q.core es))
+    ∙ ap (λ (fs : List Sent). with_lists w (put_place last w.places) fs w.reports w.lists) (append_assoc w.sent frames (given_by q.core es))
 
 -- after the report that arose is handed out
 reports_step : (w : World) (i : ℕ) (p : Place) → place_at i w.places ≡ Some p → step w (Act i (Reports 1) Saved) ≡ moved w (record { core = handed_out p.core; disk = p.disk }) []
 reports_step w i p at =
     let q : Place = record { core = handed_out p.core; disk = p.disk } in
-    ap (λ o. acts w i (Reports 1) Saved o) at ∙ ap (λ (rs : List Reported). with_lists w (put q w.places) (w.sent ++ []) rs (w.lists ++ [])) (append-nil w.reports)
-    ∙ ap (λ (ls : List InForce). with_lists w (put q w.places) (w.sent ++ []) w.reports ls) (append-nil w.lists)
+    ap (λ o. acts w i (Reports 1) Saved o) at ∙ ap (λ (rs : List Reported). with_lists w (put_place q w.places) (w.sent ++ []) rs (w.lists ++ [])) (append-nil w.reports)
+    ∙ ap (λ (ls : List InForce). with_lists w (put_place q w.places) (w.sent ++ []) w.reports ls) (append-nil w.lists)
 
 -- a core once it was emptied
 abbrev pub emptied : List ℕ → Core → Core
-emptied numbers core = after_events (handed_out core) (draining numbers (handed_out core))
+emptied numbers core = after_events (handed_out core) (drains_of numbers (handed_out core))
 
 abbrev pub given_then : List ℕ → Core → List Sent
-given_then numbers core = given_by (handed_out core) (draining numbers (handed_out core))
+given_then numbers core = given_by (handed_out core) (drains_of numbers (handed_out core))
 
 pub emptied_node : (numbers : List ℕ) (core : Core) → (emptied numbers core).node ≡ core.node
-emptied_node numbers core = node_still (handed_out core) (draining numbers (handed_out core)) (turns_are (handed_out core) _)
+emptied_node numbers core = node_still (handed_out core) (drains_of numbers (handed_out core)) (turns_are (handed_out core) _)
 
 emptying_run : (numbers : List ℕ) (w : World) (i : ℕ) (p : Place) → place_at i w.places ≡ Some p →
-    run w (map (λ e. Act i e Saved) (emptying numbers p.core)) ≡ moved w (record { core = emptied numbers p.core; disk = p.disk }) (given_then numbers p.core)
+    run w (map (λ e. Act i e Saved) (drains_and_report numbers p.core)) ≡ moved w (record { core = emptied numbers p.core; disk = p.disk }) (given_then numbers p.core)
 emptying_run numbers w i p at =
     let q : Place = record { core = handed_out p.core; disk = p.disk } in
-    let es : List CoreEvent = draining numbers q.core in
+    let es : List CoreEvent = drains_of numbers q.core in
     let last : Place = record { core = emptied numbers p.core; disk = p.disk } in
     ap (λ (v : World). run v (map (λ e. Act i e Saved) es)) (reports_step w i p at)
     ∙ drains_run (moved w q []) i q es (put_at i q w.places p (at_its_number i w.places p at) at) (turns_are q.core _)
     ∙ ap (λ (ps : List Place). with_lists w ps ((w.sent ++ []) ++ given_by q.core es) w.reports w.lists) (put_put q last w.places (ap (λ (n : Node). n.me) (node_still q.core es (turns_are q.core _))))
-    ∙ ap (λ (fs : List Sent). with_lists w (put last w.places) (fs ++ given_by q.core es) w.reports w.lists) (append-nil w.sent)
+    ∙ ap (λ (fs : List Sent). with_lists w (put_place last w.places) (fs ++ given_by q.core es) w.reports w.lists) (append-nil w.sent)
 
 -- AN EVENT AND WHAT FOLLOWS IT
 
@@ -141,7 +141,7 @@ abbrev pub emptied_then : World → ℕ → Bool → Option InForce → CoreRepl
 emptied_then w i forged set r disk = record {
   liars = w.liars;
   numbers = w.numbers;
-  places = put (let x : Place = record { core = emptied w.numbers r.core; disk = disk } in x) w.places;
+  places = put_place (let x : Place = record { core = emptied w.numbers r.core; disk = disk } in x) w.places;
   sent = (w.sent ++ sent_in r.core.node.me r.answer) ++ given_then w.numbers r.core;
   mark = w.mark;
   said = with_said w.said (option_map (said_by i) r.issued);
@@ -168,7 +168,7 @@ event_ran w i e fate = by_place (place_at i w.places) refl
         let k : Disk = disk_after p e fate in
         let q : Place = record { core = r.core; disk = k } in
         let last : Place = record { core = emptied w.numbers r.core; disk = k } in
-        let v : World = settled w i (is_forged w p.core.node e) (set_by p.core.node.me e r.answer) r k in
+        let v : World = settled_world w i (is_forged w p.core.node e) (set_by p.core.node.me e r.answer) r k in
         let its : r.core.node.me ≡ i = (core_keeps p.core e (answer_of p.disk fate)).0 ∙ at_its_number i w.places p at in
         emptying_run w.numbers v i q (put_at i q w.places p its at)
         ∙ ap (λ (ps : List Place). with_lists v ps (v.sent ++ given_then w.numbers r.core) v.reports v.lists) (put_put q last w.places (ap (λ (n : Node). n.me) (emptied_node w.numbers r.core)))

@@ -4,7 +4,7 @@ use Rattle.std.proofs.lemmas.Bool.{cases_Bool}
 use Rattle.xl_lists.specs.Agreement.{Agree}
 use Rattle.xl_sched.specs.declared.event.Event.{Event}
 use Rattle.xl_sched.specs.declared.event.What.{What}
-use Rattle.xl_world.specs.Ends.{IsLeft, ended}
+use Rattle.xl_world.specs.Ends.{IsLeft, spent_world}
 use Rattle.xl_world.specs.Schedule.{IsPlausible, after_event, steps_at}
 use Rattle.xl_world.specs.Starts.{IsRun, start}
 use Rattle.xl_world.specs.World.{World, run}
@@ -44,7 +44,7 @@ kept_same true n w is kept h = absurd (never h)
 -- reports that agree in a run agree in what is left of it
 left_agrees : (w : World) → IsLeft w → w.forged ≡ 0 → Agree w.liars w.reports
 left_agrees w left none =
-    let is : w ≡ ended left.0 = left.2 in
+    let is : w ≡ spent_world left.0 = left.2 in
     subst (λ (u : World). Agree u.liars u.reports) (sym is) (world_agrees left.0 left.1 (subst (λ (u : World). u.forged ≡ 0) is none))
 
 pub all_agree : (w : World) → (w.spent ≡ false → IsRun w) → (w.spent ≡ true → IsLeft w) → w.forged ≡ 0 → Agree w.liars w.reports

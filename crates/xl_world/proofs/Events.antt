@@ -15,7 +15,7 @@ use Rattle.xl_world.specs.Emptying.{event_steps}
 use Rattle.xl_world.specs.Disk.{found, held_by, left_by, restored}
 use Rattle.xl_world.specs.Rested.{IsAtRest, IsRested}
 use Rattle.xl_world.specs.Schedule.{cut_at, cut_short, deliveries, delivery, delivery_of, event_asked, failing, frame_at, greet_steps, lied_bytes, node_asked, restart, steps_at, timers}
-use Rattle.xl_world.specs.World.{Again, Mark, Step, World, again, asked_at, core_again, moment_in, place_at, reopened, run, step, torn}
+use Rattle.xl_world.specs.World.{Again, Mark, Step, World, again, asked_at, core_again, moment_in, place_at, reopened_world, run, step, torn_world}
 use Rattle.xl_world.proofs.Resting.{event_rests, put_rests}
 use Rattle.xl_world.proofs.Runs.{run-append}
 use Rattle.xl_world.proofs.Seats.{some_same}
@@ -26,17 +26,17 @@ mark_rests : (w : World) → IsAtRest w → IsAtRest (step w Mark)
 mark_rests w rest = record { numbers = rest.numbers; cores = rest.cores }
 
 -- a node that is opened again has no report, and its keys
-reopened_rests : (w : World) (i : ℕ) (p : Place) (now number : ℕ) → IsRested p.core → IsAtRest w → IsAtRest (reopened w i p now number)
+reopened_rests : (w : World) (i : ℕ) (p : Place) (now number : ℕ) → IsRested p.core → IsAtRest w → IsAtRest (reopened_world w i p now number)
 reopened_rests w i p now number rested rest =
-    put_rests w (reopened w i p now number) (record { core = core_again p now number; disk = restored p.disk number }) refl refl
+    put_rests w (reopened_world w i p now number) (record { core = core_again p now number; disk = restored p.disk number }) refl refl
     (record { untaken = refl; keys = rested.keys }) rest
 
 again_rests : (w : World) (i now number : ℕ) (o : Option Place) → ((p : Place) → o ≡ Some p → IsRested p.core) → IsAtRest w → IsAtRest (again w i now number o)
 again_rests w i now number None rested rest = rest
 again_rests w i now number (Some p) rested rest =
-    cond_both (may_hold (held_by p.disk) number) (reopened w i p now number) w IsAtRest (λ _. reopened_rests w i p now number (rested p refl) rest) (λ _. rest)
+    cond_both (may_hold (held_by p.disk) number) (reopened_world w i p now number) w IsAtRest (λ _. reopened_rests w i p now number (rested p refl) rest) (λ _. rest)
 
-torn_rests : (w : World) (i now number : ℕ) (o : Option Place) (asked : Option ℕ) → ((p : Place) → o ≡ Some p → IsRested p.core) → IsAtRest w → IsAtRest (torn w i now number o asked)
+torn_rests : (w : World) (i now number : ℕ) (o : Option Place) (asked : Option ℕ) → ((p : Place) → o ≡ Some p → IsRested p.core) → IsAtRest w → IsAtRest (torn_world w i now number o asked)
 torn_rests w i now number None asked rested rest = rest
 torn_rests w i now number (Some p) None rested rest = rest
 torn_rests w i now number (Some p) (Some s) rested rest =

@@ -15,7 +15,7 @@ use Rattle.xl_core.specs.declared.event.CoreEvent.TheVariants.{Drain, Frame, Gre
 use Rattle.xl_world.specs.declared.place.Fate.{Fate}
 use Rattle.xl_world.specs.declared.place.Fate.TheVariants.{Saved}
 use Rattle.xl_world.specs.declared.place.Place.{Place}
-use Rattle.xl_world.specs.Emptying.{draining, emptying_at, event_steps, handed_out}
+use Rattle.xl_world.specs.Emptying.{drains_of, emptying_at, event_steps, handed_out}
 use Rattle.xl_world.specs.Disk.{left_by}
 use Rattle.xl_world.specs.Schedule.{IsPlausible, cut_at, cut_short, deliveries, delivery, delivery_of, event_asked, failing, frame_at, greet_steps, lied_bytes, node_asked, restart, steps_at, timers}
 use Rattle.xl_world.specs.Sending.{Sent}
@@ -53,7 +53,7 @@ module _ (P : CoreEvent → Type 0) (of_all : OfAll P) where
   emptying_does numbers i e fate None = All-nil (Does P)
   emptying_does numbers i e fate (Some p) =
       let core : Core = handed_out (reply_at p e fate).core in
-      let es : List CoreEvent = draining numbers core in
+      let es : List CoreEvent = drains_of numbers core in
       All-cons (Does P) (Act i (Reports 1) Saved) (map (λ x. Act i x Saved) es) (of_all.reports 1) (drains_do i es (turns_are core _))
 
   event_does : (w : World) (i : ℕ) (e : CoreEvent) (fate : Fate) → P e → All (Does P) (event_steps w i e fate)

@@ -12,7 +12,7 @@ use Rattle.xl_world.specs.Sending.{Sent}
 use Rattle.xl_world.specs.Emptying.{event_steps}
 use Rattle.xl_world.specs.Rested.{IsAtRest}
 use Rattle.xl_world.specs.Schedule.{deliveries, delivery, delivery_of, outcomes_at, steps_at, timers, told_in, told_of_step}
-use Rattle.xl_world.specs.World.{Mark, Step, World, marked, place_at, reply_at, run, sent_in, step}
+use Rattle.xl_world.specs.World.{Mark, Step, World, marked_world, place_at, reply_at, run, sent_in, step}
 use Rattle.xl_world.proofs.Emptying.{emptied_acts, event_ran, given_then}
 use Rattle.xl_world.proofs.Resting.{event_rests}
 use Rattle.xl_world.proofs.Runs.{run-append}
@@ -125,10 +125,10 @@ told_marked w (s ∷ ss) = ap (λ (os : List Outcome). told_of_step w s ++ os) (
 
 -- and then the mark moves to the end
 pub delivered_all : (first : World) (at : ℕ) (before : List Outcome) (k : ℕ) (now : World) (told : List Outcome) → length first.sent ≤ k → IsDelivered first at before k now told →
-    (marked now ≡ run first (steps_at first at what.All)) × (told ≡ before ++ outcomes_at first at what.All)
+    (marked_world now ≡ run first (steps_at first at what.All)) × (told ≡ before ++ outcomes_at first at what.All)
 delivered_all first at before k now told past delivered =
     let none : drop k first.sent ≡ [] = none_left first.sent k past in
     let all : List Step = deliveries first at (drop first.mark first.sent) in (
-      ap marked (sym (delivered.world ∙ ap (λ (xs : List Sent). run now (deliveries now at xs)) none)) ∙ sym (run-append first all (Mark ∷ [])),
+      ap marked_world (sym (delivered.world ∙ ap (λ (xs : List Sent). run now (deliveries now at xs)) none)) ∙ sym (run-append first all (Mark ∷ [])),
       sym (delivered.told ∙ (ap (λ (xs : List Sent). told ++ told_in now (deliveries now at xs)) none ∙ append-nil told)) ∙ ap (λ (os : List Outcome). before ++ os) (sym (told_marked first all)),
     )

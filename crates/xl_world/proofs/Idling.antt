@@ -8,10 +8,10 @@ use Rattle.std.proofs.lemmas.List.{set-get_or, take_more}
 use Rattle.std.proofs.lemmas.List.Elements.{All-append, All-cons, All-head, All-nil, All-tail, All-weaker}
 use Rattle.xl_queues.specs.Queues.{Backlog}
 use Rattle.xl_core.specs.Answers.{Gave, given_in}
-use Rattle.xl_core.specs.Core.{Core, CoreReply, all_frames, answering, given_for, greeted_frames, is_idle, Marks}
+use Rattle.xl_core.specs.Core.{Core, CoreReply, all_frames, core_reply, given_for, greeted_frames, is_idle, Marks}
 use Rattle.xl_core.specs.Greetings.{further, further_at, greeting_at, greeting_frames}
 use Rattle.xl_core.specs.Items.{frame_of}
-use Rattle.xl_core.specs.Queues.{after_taking, at_number, fitting, frames_in, that_fit, waiting_at}
+use Rattle.xl_core.specs.Queues.{after_taking, at_number, count_fitting, frames_in, that_fit, waiting_at}
 use Rattle.xl_core.specs.declared.event.CoreEvent.{CoreEvent}
 use Rattle.xl_core.specs.declared.the_core.greeting.Greeting.{Greeting}
 use Rattle.xl_core.specs.declared.item.Item.{Item}
@@ -38,7 +38,7 @@ further_none gs zero count none = refl
 further_none gs (suc p) count none = ap (λ (o : Option Greeting). set gs p (option_map (further count) o)) none ∙ ap (λ (o : Option Greeting). set gs p o) (sym none) ∙ set-get_or gs p None
 
 -- one for an idle member leaves the core, and gives nothing
-idle_drained : (core : Core) (m : ℕ) → is_idle core m ≡ true → drained_once core m ≡ answering core (Gave m [])
+idle_drained : (core : Core) (m : ℕ) → is_idle core m ≡ true → drained_once core m ≡ core_reply core (Gave m [])
 idle_drained core m idle =
     let none = none_left (greeting_at core.greetings m) (waiting_at core.waiting m).items idle in
     let greeted : greeted_frames core m ≡ [] = ap (λ (o : Option Greeting). greeting_frames core.node o m) none.0 in
@@ -47,13 +47,13 @@ idle_drained core m idle =
     let given : given_for core m longest_frame ≡ [] = ap (λ (fs : List (Option (List ℕ))). that_fit fs longest_frame) all in
     let taken : drop (length (greeted_frames core m)) (given_for core m longest_frame) ≡ [] =
     ap (λ (fs : List (Option (List ℕ))). drop (length fs) (given_for core m longest_frame)) greeted ∙ given in
-    let greetings : further_at core.greetings m (fitting (greeted_frames core m) longest_frame) ≡ core.greetings = further_none core.greetings m (fitting (greeted_frames core m) longest_frame) none.0 in
+    let greetings : further_at core.greetings m (count_fitting (greeted_frames core m) longest_frame) ≡ core.greetings = further_none core.greetings m (count_fitting (greeted_frames core m) longest_frame) none.0 in
     let waiting : at_number core.waiting m (after_taking (drop (length (greeted_frames core m)) (given_for core m longest_frame))) ≡ core.waiting =
     ap (λ (fs : List (Option (List ℕ))). at_number core.waiting m (after_taking fs)) taken ∙ taking_none core.waiting m in
     ap (λ (gs : List (Option Greeting)). let c : Core = record core { greetings = gs; waiting = at_number core.waiting m (after_taking (drop (length (greeted_frames core m)) (given_for core m longest_frame))) } in
-    answering c (Gave m (frames_in (given_for core m longest_frame)))) greetings
-    ∙ ap (λ (ws : List (Backlog Item)). let c : Core = record core { waiting = ws } in answering c (Gave m (frames_in (given_for core m longest_frame)))) waiting
-    ∙ ap (λ (fs : List (Option (List ℕ))). answering core (Gave m (frames_in fs))) given
+    core_reply c (Gave m (frames_in (given_for core m longest_frame)))) greetings
+    ∙ ap (λ (ws : List (Backlog Item)). let c : Core = record core { waiting = ws } in core_reply c (Gave m (frames_in (given_for core m longest_frame)))) waiting
+    ∙ ap (λ (fs : List (Option (List ℕ))). core_reply core (Gave m (frames_in fs))) given
 
 -- ALL DRAINS
 

@@ -1,5 +1,5 @@
 -- The index of sent frames, and what it finds.
-use Rattle.std.proofs.Common.{◌≡◌, ℕ, ◌+◌, ◌-◌, ◌<◌, true, false, cond, List, ◌++◌, length, get_or, refl, arith, ap, sym, ◌∙◌, inl, inr, Option, Some, None, subst, length-append}
+use Rattle.std.proofs.Common.{◌≡◌, ℕ, ◌+◌, ◌<◌, true, false, cond, List, ◌++◌, length, get_or, refl, arith, ap, sym, ◌∙◌, inl, inr, Option, Some, None, subst, length-append}
 use Rattle.std.specs.Prelude.{◌⊎◌, All, is_some, slice_get}
 use Rattle.std.specs.Str.{bytes_eq}
 use Rattle.std.proofs.lemmas.Bool.{cases_Bool, cond-true, cond-false}

@@ -15,7 +15,7 @@ use Rattle.xl_core.specs.declared.refusal.Refusal.TheVariants.{NotAfter}
 use Rattle.xl_core.specs.declared.hearing.Speech.{Speech}
 use Rattle.xl_core.specs.declared.hearing.Speech.TheVariants as speech
 use Rattle.xl_core.proofs.Frames.{hearing_either}
-use Rattle.xl_core.specs.Node.{Node, Event, Issue, Frame, Timer, Submit, Relist, Reply, asks, Save, at_moment, second_of, own_validation, issued_unless_off, issued_reply, issuing_reply, replying, timer_reply, timer_outcome, validates, validating_built, taken_reply, bytes_reply, refusing, happens}
+use Rattle.xl_core.specs.Node.{Node, Event, Issue, Frame, Timer, Submit, Relist, Reply, asks, Save, at_moment, second_of, own_validation, issued_unless_off, issued_reply, issuing_reply, reply_with, timer_reply, timer_outcome, validates, validating_built, taken_reply, bytes_reply, refusing_reply, happens}
 use Rattle.xl_wire.specs.declared.validation.Validation.{Validation}
 use Rattle.xl_core.specs.Issuing.Save.{Kept, Failed}
 
@@ -43,11 +43,11 @@ hearing_keeps n bytes = hearing_either (KeepsList n) n bytes (λ _. (refl, refl,
 
 pub issuing_keeps : (n : Node) (seq : ℕ) (id : LedgerId) (full : Bool) (save : Save) → KeepsList n (issuing_reply n seq id full save)
 issuing_keeps n seq id full save =
-    cond_both (nat_lt n.kept seq) (issued_unless_off n n.failed_save save (own_validation n seq id full)) (refusing n (NotAfter n.kept)) (KeepsList n) (λ _. unless_keep n n.failed_save save (own_validation n seq id full)) (λ _. (refl, refl, refl, refl, refl, refl))
+    cond_both (nat_lt n.kept seq) (issued_unless_off n n.failed_save save (own_validation n seq id full)) (refusing_reply n (NotAfter n.kept)) (KeepsList n) (λ _. unless_keep n n.failed_save save (own_validation n seq id full)) (λ _. (refl, refl, refl, refl, refl, refl))
 
 validating_keeps : (n : Node) (h : Header) (moved_on : Bool) (save : Save) → KeepsList n (validating_built n h moved_on save)
 validating_keeps n h moved_on save =
-    cond_both (validates n moved_on) (issuing_reply n h.seq (header_id h) (is_proposing n.round.setting.mode) save) (replying n Done []) (KeepsList n)
+    cond_both (validates n moved_on) (issuing_reply n h.seq (header_id h) (is_proposing n.round.setting.mode) save) (reply_with n Done []) (KeepsList n)
     (λ _. issuing_keeps n h.seq (header_id h) (is_proposing n.round.setting.mode) save) (λ _. (refl, refl, refl, refl, refl, refl))
 
 pub timer_keeps : (n : Node) (save : Save) → KeepsList n (timer_reply (timer_outcome n) save)

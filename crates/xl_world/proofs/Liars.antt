@@ -14,8 +14,9 @@ use Rattle.xl_tags.specs.Rings.{Ring, schedule_ring}
 use Rattle.xl_tags.specs.Sealing.{as_sealed, with_tag}
 use Rattle.xl_tags.proofs.OpeningLaws.{IsRaw-as_sealed}
 use Rattle.xl_core.specs.Hearing.{bytes_as_sealed}
-use Rattle.xl_core.specs.Sending.{blank_frame, sealed_bytes}
+use Rattle.xl_core.specs.Sending.{blank_frame, has_spelling, sealed_bytes}
 use Rattle.xl_core.proofs.Heard.{as_sealed_bytes}
+use Rattle.xl_core.proofs.Spelling.{sealed_raw}
 use Rattle.xl_world.specs.Forgeries.{forges, was_sent}
 use Rattle.xl_world.specs.Sending.{Sent}
 use Rattle.xl_world.proofs.Lying.{key_of_own, keyless, unsealed}
@@ -52,3 +53,11 @@ lie_fair liars sent keys from to body ok heard liar =
     let is : sealed_bytes (schedule_ring from) from to body ≡ raw_bytes (as_sealed (schedule_ring to) f) =
     sym heard ∙ as_sealed_bytes (schedule_ring to) (raw_bytes f) f (record { frame = ok; spelling = refl }) in
     ap (λ (bytes : List ℕ). forges liars sent keys bytes (split_of bytes)) is ∙ liar_fair liars sent keys (as_sealed (schedule_ring to) f) (IsRaw-as_sealed (schedule_ring to) f ok) liar
+
+-- nor is what has a spelling
+pub spelled_fair : (liars : List ℕ) (sent : List Sent) (keys : Ring) (from to : ℕ) (body : Body) → IsNumber from → IsNumber to → has_spelling from to body ≡ true → is_on liars from ≡ true →
+    forges liars sent keys (sealed_bytes (schedule_ring from) from to body) (split_of (sealed_bytes (schedule_ring from) from to body)) ≡ false
+spelled_fair liars sent keys from to body mine its spelled liar =
+    let s = sealed_raw (schedule_ring from) from to body spelled in
+    let ok : IsRaw (raw_of (blank_frame from to body)) = record { lawful = s.lawful; from = s.from; to = s.to; tag = refl } in
+    lie_fair liars sent keys from to body ok (heard_sealed from to body mine its ok) liar

@@ -42,7 +42,10 @@ pub mod Doing
 pub mod Going
 pub mod Sealing
 pub mod Liars
+pub mod Carrying
 pub mod Emptied
+pub mod Fronts
+pub mod Itemwise
 pub mod Framing
 pub mod Partwise
 pub mod Keyed

@@ -6,7 +6,7 @@ use Rattle.std.proofs.lemmas.List.Elements.{All-append, All-cons, All-nil, All-w
 use Rattle.xl_io.specs.Keepers.{may_hold}
 use Rattle.xl_lists.specs.Lists.{TrustedList}
 use Rattle.xl_core.specs.Answers.{Done}
-use Rattle.xl_core.specs.Core.{Core, CoreReply, answering, core_happens}
+use Rattle.xl_core.specs.Core.{Core, CoreReply, core_reply, core_happens}
 use Rattle.xl_core.specs.Node.{Node, Save, at_moment}
 use Rattle.xl_core.specs.declared.event.CoreEvent.{CoreEvent}
 use Rattle.xl_core.specs.declared.event.CoreEvent.TheVariants.{Issue, Frame, Timer, Submit, Greet, Drain, Reports, Stop, Stopped, Relist}
@@ -20,7 +20,7 @@ use Rattle.xl_world.specs.declared.plan.PlanNode.{PlanNode}
 use Rattle.xl_world.specs.Disk.{answer_of, held_by, restored}
 use Rattle.xl_world.specs.Plans.{Shared}
 use Rattle.xl_world.specs.Starts.{list_of, start, start_of}
-use Rattle.xl_world.specs.World.{World, Step, Act, Again, Torn, Mark, place_at, is_forged, set_by, settled, acts, reply_at, disk_after, reported_by, core_again, moment_in, reopened, again, torn, asked_at, step, run}
+use Rattle.xl_world.specs.World.{World, Step, Act, Again, Torn, Mark, place_at, is_forged, set_by, settled_world, acts, reply_at, disk_after, reported_by, core_again, moment_in, reopened_world, again, torn_world, asked_at, step, run}
 use Rattle.xl_world.proofs.Keeping.{core_keeps, frame_keeps, issuing_keeps, timer_keeps}
 use Rattle.xl_world.proofs.Seats.{some_same}
 use Rattle.xl_world.proofs.Settling.{at_its_number, put_cases}
@@ -65,7 +65,7 @@ reported_under ls n None has = All-nil (λ r. Contains ls (at_node r.node r.list
 reported_under ls n (Some q) has = All-cons (λ r. Contains ls (at_node r.node r.list)) (reported_by n q) [] has (All-nil (λ r. Contains ls (at_node r.node r.list)))
 
 settled_lists : (w : World) (i : ℕ) (forged : Bool) (set : Option InForce) (p : Place) (r : CoreReply) (k : Disk) → place_at i w.places ≡ Some p → r.core.node.me ≡ p.core.node.me →
-    Follows p.core.node.me p.core.node.list set r.core.node.list → HasLists w → HasLists (settled w i forged set r k)
+    Follows p.core.node.me p.core.node.list set r.core.node.list → HasLists w → HasLists (settled_world w i forged set r k)
 settled_lists w i forged set p r k at same follows has =
     let ls : List InForce = w.lists ++ option_to_list set in
     let before : Contains w.lists (at_node p.core.node.me p.core.node.list) =
@@ -93,8 +93,8 @@ acts_lists w i e fate has (Some p) at =
 again_lists : (w : World) (i now number : ℕ) → HasLists w → (p : Place) → place_at i w.places ≡ Some p → (k : Disk) → HasLists (again w i now number (Some (record { core = p.core; disk = k })))
 again_lists w i now number has p at k =
     let q : Place = record { core = p.core; disk = k } in
-    cond_both (may_hold (held_by k) number) (reopened w i q now number) w HasLists
-    (λ _. settled_lists w i false None p (answering (core_again q now number) Done) (restored k number) at refl (λ ls. stays ls p.core.node.me p.core.node.list p.core.node.list refl) has) (λ _. has)
+    cond_both (may_hold (held_by k) number) (reopened_world w i q now number) w HasLists
+    (λ _. settled_lists w i false None p (core_reply (core_again q now number) Done) (restored k number) at refl (λ ls. stays ls p.core.node.me p.core.node.list p.core.node.list refl) has) (λ _. has)
 
 step_lists : (w : World) (s : Step) → HasLists w → HasLists (step w s)
 step_lists w (Act i e fate) has = acts_lists w i e fate has (place_at i w.places) refl
@@ -105,7 +105,7 @@ step_lists w (Again i now number) has = by (place_at i w.places) refl
     by (Some p) at = again_lists w i now number has p at p.disk
 step_lists w (Torn i e number) has = by (place_at i w.places) refl (asked_at (place_at i w.places) e)
   where
-    by : (o : Option Place) → place_at i w.places ≡ o → (asked : Option ℕ) → HasLists (torn w i (moment_in e) number o asked)
+    by : (o : Option Place) → place_at i w.places ≡ o → (asked : Option ℕ) → HasLists (torn_world w i (moment_in e) number o asked)
     by None at asked = has
     by (Some p) at None = has
     by (Some p) at (Some s) = again_lists w i (moment_in e) number has p at (record p.disk { asked = Some s })

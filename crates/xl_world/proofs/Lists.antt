@@ -7,7 +7,7 @@ use Rattle.xl_lists.specs.Agreement.{Agree}
 use Rattle.xl_world.specs.declared.plan.PlanNode.{PlanNode}
 use Rattle.xl_world.specs.Headline.{AgreeAt, EnoughAt, Headline}
 use Rattle.xl_world.specs.Networks.{IsNew, IsOpened}
-use Rattle.xl_world.specs.Plans.{AreDeclared, Shared, planned}
+use Rattle.xl_world.specs.Plans.{AreDeclared, Shared, planned_settings}
 use Rattle.xl_world.specs.Starts.{IsRun, start, start_of}
 use Rattle.xl_world.specs.World.{World}
 use Rattle.xl_world.proofs.Runs.{headline_of_networks}
@@ -17,7 +17,7 @@ start_new : (shared : Shared) (liars : List ℕ) (plan : List PlanNode) → AreD
 start_new shared liars plan declared = record {
   opened = All-map IsOpened (start_of shared) plan
       (λ k e in_plan. let d : PlanNode = slice_index_or plan k e in
-      record { settings = planned shared d; moment = d.moment; kept = 0; list = (declared k e in_plan).list; opened = refl });
+      record { settings = planned_settings shared d; moment = d.moment; kept = 0; list = (declared k e in_plan).list; opened = refl });
   sent = refl;
   said = refl;
   reports = refl;

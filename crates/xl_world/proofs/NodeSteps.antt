@@ -28,7 +28,7 @@ use Rattle.xl_core.specs.declared.hearing.Speech.TheVariants as speech
 use Rattle.xl_core.specs.Hearing.{spoken_in}
 use Rattle.xl_core.proofs.Frames.{hearing_either}
 use Rattle.xl_core.specs.Answers.{Answer, Done, Beats}
-use Rattle.xl_core.specs.Node.{settings_of, Node, Event, Issue, Frame, Timer, Submit, Relist, Reply, relisted_reply, with_list, Save, issuing_reply, replying, submitted_reply, timer_reply, timer_outcome, validates, asks_for, asks_of, at_moment, second_of, own_validation, issued_unless_off, unless_failed, take, with_taken, with_saved, arises, arisen, report_of, refusing, placing, taken_reply, bytes_reply, asks, happens, opened}
+use Rattle.xl_core.specs.Node.{settings_of, Node, Event, Issue, Frame, Timer, Submit, Relist, Reply, relisted_reply, with_list, Save, issuing_reply, reply_with, submitted_reply, timer_reply, timer_outcome, validates, asks_for, asks_of, at_moment, second_of, own_validation, issued_unless_off, unless_failed, take, with_taken, with_saved, arises, new_report, report_of, refusing_reply, proposal_answer, taken_reply, bytes_reply, asks, happens, opened_node}
 use Rattle.xl_world.specs.declared.place.Disk.{Disk}
 use Rattle.xl_world.specs.declared.place.Fate.{Fate}
 use Rattle.xl_world.specs.declared.place.Fate.TheVariants.{Saved, Unwritten, Written}
@@ -113,7 +113,7 @@ mapped P None h = tt
 mapped P (Some v) h = h
 
 -- what arises has its rows
-arisen_quorum : (n : Node) → IfSome (arisen n) (λ q. n.list.quorum ≤ count_full q.seq q.id n.rows)
+arisen_quorum : (n : Node) → IfSome (new_report n) (λ q. n.list.quorum ≤ count_full q.seq q.id n.rows)
 arisen_quorum n =
     mapped (λ q. n.list.quorum ≤ count_full q.seq q.id n.rows) (find (arises n) (filter_map (λ row. row.current) n.rows))
     (if_some (λ v. arises n v ≡ true) _ (λ v e. leb-true _ _ (and_parts (nat_le n.list.quorum (count_full v.seq v.id n.rows)) _ e).0)
@@ -121,7 +121,7 @@ arisen_quorum n =
 
 -- after a save that failed
 failed_steps : (p : Seat) (v : Validation) (count : ℕ) (written : Bool) → p.node.kept < v.seq → IsWell p →
-    IsStep p (refusing (record p.node { failed_save = Some v.seq }) (KeepFault count)) (after_failed p.disk v.seq written)
+    IsStep p (refusing_reply (record p.node { failed_save = Some v.seq }) (KeepFault count)) (after_failed p.disk v.seq written)
 failed_steps p v count written above well = record {
   me = refl;
   well = record { members = well.members; valid = well.valid; in_force = well.in_force };
@@ -133,7 +133,7 @@ failed_steps p v count written above well = record {
 
 -- an issue, by whether its sequence is above the kept one, whether a save failed before, and the fate of its own
 issue_steps : (p : Seat) (v : Validation) (b : Bool) (off : Option ℕ) (fate : Fate) → (b ≡ true → p.node.kept < v.seq) → IsWell p →
-    IsStep p (cond b (issued_unless_off p.node off (answer_of p.disk fate) v) (refusing p.node (NotAfter p.node.kept))) (after_save p.disk (cond b (unless_failed off v.seq) None) fate)
+    IsStep p (cond b (issued_unless_off p.node off (answer_of p.disk fate) v) (refusing_reply p.node (NotAfter p.node.kept))) (after_save p.disk (cond b (unless_failed off v.seq) None) fate)
 issue_steps p v true None Saved above well = record {
   me = refl;
   well = record { members = members_taken (second_of p.node) p.node.me v p.node.rows ∙ well.members; valid = well.valid; in_force = refl };
@@ -144,16 +144,16 @@ issue_steps p v true None Saved above well = record {
 }
 issue_steps p v true None Unwritten above well = failed_steps p v (one_more p.disk.faults) false (above refl) well
 issue_steps p v true None Written above well = failed_steps p v (one_more p.disk.faults) true (above refl) well
-issue_steps p v true (Some failed) fate above well = still p (refusing p.node (IssuingOff failed)) refl refl refl well
-issue_steps p v false off fate above well = still p (refusing p.node (NotAfter p.node.kept)) refl refl refl well
+issue_steps p v true (Some failed) fate above well = still p (refusing_reply p.node (IssuingOff failed)) refl refl refl well
+issue_steps p v false off fate above well = still p (refusing_reply p.node (NotAfter p.node.kept)) refl refl refl well
 
 -- another round, on other ledgers
 elsewhere : (p : Seat) (r : Reply) (k : Disk) (ledgers : Ledgers) (round : Round) → IsStep p r k → IsStep p (record r { node = record r.node { ledgers = ledgers; round = round } }) k
 elsewhere p r k ledgers round s = record { me = s.me; well = record { members = s.well.members; valid = s.well.valid; in_force = s.well.in_force }; rises = s.rises; above = s.above; saved = s.saved; quorum = s.quorum }
 
-in_round : (p : Seat) (a : Answer) (r : Round) → IsWell p → IsStep p (replying (record p.node { round = r }) a []) p.disk
+in_round : (p : Seat) (a : Answer) (r : Round) → IsWell p → IsStep p (reply_with (record p.node { round = r }) a []) p.disk
 in_round p a r well =
-    let s = elsewhere p (replying p.node a []) p.disk p.node.ledgers r (still p (replying p.node a []) refl refl refl well) in
+    let s = elsewhere p (reply_with p.node a []) p.disk p.node.ledgers r (still p (reply_with p.node a []) refl refl refl well) in
     record { me = s.me; well = s.well; rises = s.rises; above = s.above; saved = s.saved; quorum = s.quorum }
 
 -- a row takes a validation; a header changes no row and no number
@@ -168,15 +168,15 @@ taking_steps p from (speech.Validation v) well = record {
 }
 taking_steps p from (speech.Header h) well =
     let r : Reply = taken_reply p.node from (speech.Header h) in
-    let s = elsewhere p (replying p.node r.answer []) p.disk (with_header p.node.ledgers h) p.node.round (still p (replying p.node r.answer []) refl refl refl well) in
+    let s = elsewhere p (reply_with p.node r.answer []) p.disk (with_header p.node.ledgers h) p.node.round (still p (reply_with p.node r.answer []) refl refl refl well) in
     record { me = s.me; well = s.well; rises = s.rises; above = s.above; saved = s.saved; quorum = s.quorum }
-taking_steps p from (speech.Proposal q) well = in_round p (taken_reply p.node from (speech.Proposal q)).answer (with_answer (placing p.node from q) from q p.node.round) well
+taking_steps p from (speech.Proposal q) well = in_round p (taken_reply p.node from (speech.Proposal q)).answer (with_answer (proposal_answer p.node from q) from q p.node.round) well
 taking_steps p from (speech.TxSet ids) well = in_round p (taken_reply p.node from (speech.TxSet ids)).answer (hold from ids p.node.round) well
 taking_steps p from (speech.Tx tx) well = in_round p (taken_reply p.node from (speech.Tx tx)).answer (with_pending tx p.node.round) well
 
 hearing_steps : (p : Seat) (bytes : List ℕ) → IsWell p → IsStep p (bytes_reply p.node bytes) p.disk
 hearing_steps p bytes well =
-    hearing_either (λ r. IsStep p r p.disk) p.node bytes (λ why. still p (refusing p.node why) refl refl refl well) (λ said _. taking_steps p said.from said.what well)
+    hearing_either (λ r. IsStep p r p.disk) p.node bytes (λ why. still p (refusing_reply p.node why) refl refl refl well) (λ said _. taking_steps p said.from said.what well)
 
 -- the place at a moment: its time is set, and rows expire
 abbrev moved : ℕ → Seat → Seat
@@ -189,15 +189,15 @@ from_moved : (now : ℕ) (p : Seat) (r : Reply) (k : Disk) → IsStep (moved now
 from_moved now p r k s = record { me = s.me; well = s.well; rises = s.rises; above = s.above; saved = s.saved; quorum = s.quorum }
 
 validating_steps : (p : Seat) (h : Header) (full : Bool) (b : Bool) (fate : Fate) → IsWell p →
-    IsStep p (cond b (issuing_reply p.node h.seq (header_id h) full (answer_of p.disk fate)) (replying p.node Done [])) (after_save p.disk (cond b (asks_for p.node h.seq) None) fate)
+    IsStep p (cond b (issuing_reply p.node h.seq (header_id h) full (answer_of p.disk fate)) (reply_with p.node Done [])) (after_save p.disk (cond b (asks_for p.node h.seq) None) fate)
 validating_steps p h full true fate well =
     issue_steps p (own_validation p.node h.seq (header_id h) full) (nat_lt p.node.kept h.seq) p.node.failed_save fate (λ e. ltb-true _ _ e) well
-validating_steps p h full false fate well = still p (replying p.node Done []) refl refl refl well
+validating_steps p h full false fate well = still p (reply_with p.node Done []) refl refl refl well
 
 timer_steps : (p : Seat) (fate : Fate) → IsWell p → IsStep p (timer_reply (timer_outcome p.node) (answer_of p.disk fate)) (after_save p.disk (asks_of (timer_outcome p.node)) fate)
 timer_steps p fate well =
     timing_by (λ t. IsStep p (timer_reply t (answer_of p.disk fate)) (after_save p.disk (asks_of t) fate)) p.node
-    (λ r beat said. let s = elsewhere p (replying p.node (Beats beat) (said_items said)) p.disk p.node.ledgers r (still p (replying p.node (Beats beat) (said_items said)) refl refl refl well) in
+    (λ r beat said. let s = elsewhere p (reply_with p.node (Beats beat) (said_items said)) p.disk p.node.ledgers r (still p (reply_with p.node (Beats beat) (said_items said)) refl refl refl well) in
     record { me = s.me; well = s.well; rises = s.rises; above = s.above; saved = s.saved; quorum = s.quorum })
     (λ ledgers r said h place moved_on _.
     let q : Seat = record { node = record p.node { ledgers = ledgers; round = r }; disk = p.disk } in
@@ -206,13 +206,13 @@ timer_steps p fate well =
 
 submit_steps : (p : Seat) (tx : TxId) → IsWell p → IsStep p (submitted_reply p.node tx) p.disk
 submit_steps p tx well =
-    submit_either (λ r. IsStep p r p.disk) p.node tx (λ why. still p (refusing p.node why) refl refl refl well)
-    (let s = elsewhere p (replying p.node Done (Tx tx ∷ [])) p.disk p.node.ledgers (with_pending tx p.node.round) (still p (replying p.node Done (Tx tx ∷ [])) refl refl refl well) in
+    submit_either (λ r. IsStep p r p.disk) p.node tx (λ why. still p (refusing_reply p.node why) refl refl refl well)
+    (let s = elsewhere p (reply_with p.node Done (Tx tx ∷ [])) p.disk p.node.ledgers (with_pending tx p.node.round) (still p (reply_with p.node Done (Tx tx ∷ [])) refl refl refl well) in
     record { me = s.me; well = s.well; rises = s.rises; above = s.above; saved = s.saved; quorum = s.quorum })
 
 relisting_steps : (p : Seat) (list : TrustedList) → IsValid list → IsWell p → IsStep p (relisted_reply p.node list) p.disk
 relisting_steps p list valid well =
-    relist_either (λ r. IsStep p r p.disk) p.node list (λ why. still p (refusing p.node why) refl refl refl well)
+    relist_either (λ r. IsStep p r p.disk) p.node list (λ why. still p (refusing_reply p.node why) refl refl refl well)
     (λ _. record {
       me = refl;
       well = record { members = members_relisted list.members p.node.rows; valid = valid; in_force = well.in_force };
@@ -244,8 +244,8 @@ heard_weaker P Q h n (Frame now bytes) says = λ from v is. h (said_by from v) (
 heard_weaker P Q h n other says = tt
 
 issue_says : (P : SaidLedger → Type 0) (n : Node) (v : Validation) (b : Bool) (off : Option ℕ) (save : Save) → NodeSays P n →
-    IfSome (cond b (issued_unless_off n off save v) (refusing n (NotAfter n.kept))).issued (λ u. P (said_by n.me u)) →
-    ReplySays P n.me (cond b (issued_unless_off n off save v) (refusing n (NotAfter n.kept)))
+    IfSome (cond b (issued_unless_off n off save v) (refusing_reply n (NotAfter n.kept))).issued (λ u. P (said_by n.me u)) →
+    ReplySays P n.me (cond b (issued_unless_off n off save v) (refusing_reply n (NotAfter n.kept)))
 issue_says P n v true None AnsweredOk says fair = record { node = rows_say P (second_of n) n.me v fair n.rows says; issued = fair }
 issue_says P n v true None (AnsweredFailed count) says fair = record { node = says; issued = tt }
 issue_says P n v true (Some failed) save says fair = record { node = says; issued = tt }
@@ -290,8 +290,8 @@ relisted_says P ms rows says = All-map (RowSays P) (row_for rows) ms (λ k e _. 
 
 -- what holds of what stands at the node, of what came and of what is issued holds of what stands there then
 validating_says : (P : SaidLedger → Type 0) (n : Node) (h : Header) (full : Bool) (b : Bool) (save : Save) → NodeSays P n →
-    IfSome (cond b (issuing_reply n h.seq (header_id h) full save) (replying n Done [])).issued (λ u. P (said_by n.me u)) →
-    ReplySays P n.me (cond b (issuing_reply n h.seq (header_id h) full save) (replying n Done []))
+    IfSome (cond b (issuing_reply n h.seq (header_id h) full save) (reply_with n Done [])).issued (λ u. P (said_by n.me u)) →
+    ReplySays P n.me (cond b (issuing_reply n h.seq (header_id h) full save) (reply_with n Done []))
 validating_says P n h full true save says fair = issue_says P n (own_validation n h.seq (header_id h) full) (nat_lt n.kept h.seq) n.failed_save save says fair
 validating_says P n h full false save says fair = record { node = says; issued = tt }
 
@@ -319,10 +319,10 @@ happens_says P n (Relist now list) save says spoken_in fair =
     (λ _. record { node = relisted_says P list.members m.rows (says_then P now n says); issued = tt })
 
 -- a node that is opened has nothing
-pub opened_says : (P : SaidLedger → Type 0) (settings : Settings) (now kept : ℕ) → NodeSays P (opened settings now kept)
+pub opened_says : (P : SaidLedger → Type 0) (settings : Settings) (now kept : ℕ) → NodeSays P (opened_node settings now kept)
 opened_says P settings now kept = All-map (RowSays P) empty_row settings.list.members (λ _ _ _. tt)
 
-pub opened_well : (settings : Settings) (now number : ℕ) (k : Disk) → IsValid settings.list → k.in_force ≡ number → IsWell (record { node = opened settings now number; disk = k })
+pub opened_well : (settings : Settings) (now number : ℕ) (k : Disk) → IsValid settings.list → k.in_force ≡ number → IsWell (record { node = opened_node settings now number; disk = k })
 opened_well settings now number k valid same = record { members = members_opened settings.list.members; valid = valid; in_force = sym same }
 
 asks_for_above : (n : Node) (seq : ℕ) → IfSome (asks_for n seq) (λ s. n.kept < s)
@@ -349,7 +349,7 @@ quiet n = record { node = n; answer = Done; items = []; issued = None; report = 
 
 -- a node opened again with a number that is not below its disk's
 pub opened_steps : (p : Seat) (now number : ℕ) → IsWell p → (i : ℕ) × (i ≤ number) × MayHold (held_by p.disk) i →
-    IsStep p (quiet (opened (settings_of p.node) now number)) (restored p.disk number)
+    IsStep p (quiet (opened_node (settings_of p.node) now number)) (restored p.disk number)
 opened_steps p now number well low = record {
   me = refl;
   well = opened_well (settings_of p.node) now number (restored p.disk number) well.valid refl;

@@ -7,7 +7,7 @@ use Rattle.std.proofs.lemmas.List.Folds.{find-append}
 use Rattle.xl_base.specs.Ids.{same_id}
 use Rattle.xl_lists.specs.declared.report.Report.{Report}
 use Rattle.xl_lists.proofs.Agreement.{same_id-true}
-use Rattle.xl_world.specs.Forks.{Fork, opposed, fork_after, first_fork}
+use Rattle.xl_world.specs.Forks.{Fork, opposing_report, fork_after, first_fork}
 
 abbrev pub fork_of : Report → Report → Fork
 fork_of earlier later = record { earlier = earlier; later = later }
@@ -23,7 +23,7 @@ if_other r (Some q) = if not (same_id q.id r.id) then Some q else None
 
 -- only the first report of its sequence can oppose a report
 abbrev pub FirstsSpeak : List Report → Type 0
-FirstsSpeak reports = (r : Report) → opposed reports r ≡ if_other r (first_of r.seq reports)
+FirstsSpeak reports = (r : Report) → opposing_report reports r ≡ if_other r (first_of r.seq reports)
 
 -- a report alone opposes another as the first of its sequence does
 alone : (x r : Report) (is same : Bool) → (if not same then Some x else None) ≡ if_other r (Some x) →
@@ -46,25 +46,25 @@ unopposed f r h =
     ]
 
 -- with one more report, where the first of its sequence is this one or none
-more_at : (reports : List Report) (x r : Report) → FirstsSpeak reports → opposed reports x ≡ None → (first : Option Report) → first_of r.seq reports ≡ first →
-    option_or (if_other r first) (opposed (x ∷ []) r) ≡ if_other r (option_or first (first_of r.seq (x ∷ [])))
+more_at : (reports : List Report) (x r : Report) → FirstsSpeak reports → opposing_report reports x ≡ None → (first : Option Report) → first_of r.seq reports ≡ first →
+    option_or (if_other r first) (opposing_report (x ∷ []) r) ≡ if_other r (option_or first (first_of r.seq (x ∷ [])))
 more_at reports x r speak none None at = alone x r (x.seq == r.seq) (same_id x.id r.id) refl
 more_at reports x r speak none (Some f) at =
     elim (cases_Bool (same_id f.id r.id)) [
       | inr other ↦
-          subst (λ b. option_or (if not b then Some f else None) (opposed (x ∷ []) r) ≡ (if not b then Some f else None)) (sym other) refl
+          subst (λ b. option_or (if not b then Some f else None) (opposing_report (x ∷ []) r) ≡ (if not b then Some f else None)) (sym other) refl
       | inl same ↦
-          subst (λ b. option_or (if not b then Some f else None) (opposed (x ∷ []) r) ≡ (if not b then Some f else None)) (sym same)
+          subst (λ b. option_or (if not b then Some f else None) (opposing_report (x ∷ []) r) ≡ (if not b then Some f else None)) (sym same)
           (silent x (x.seq == r.seq) (same_id x.id r.id) (λ is.
           let of_x : first_of x.seq reports ≡ Some f = ap (λ s. first_of s reports) (eqb-true x.seq r.seq is) ∙ at in
           let theirs : f.id ≡ x.id = same_id-true f.id x.id (unopposed f x (sym (speak x ∙ ap (if_other x) of_x) ∙ none)) in
           subst (λ id. same_id id r.id ≡ true) theirs same))
     ]
 
-pub speak_more : (reports : List Report) (x : Report) → FirstsSpeak reports → opposed reports x ≡ None → FirstsSpeak (reports ++ x ∷ [])
+pub speak_more : (reports : List Report) (x : Report) → FirstsSpeak reports → opposing_report reports x ≡ None → FirstsSpeak (reports ++ x ∷ [])
 speak_more reports x speak none r =
     find-append (λ q. q.seq == r.seq && not (same_id q.id r.id)) reports (x ∷ [])
-    ∙ (ap (λ o. option_or o (opposed (x ∷ []) r)) (speak r)
+    ∙ (ap (λ o. option_or o (opposing_report (x ∷ []) r)) (speak r)
     ∙ (more_at reports x r speak none (first_of r.seq reports) refl
     ∙ ap (if_other r) (sym (find-append (λ q. q.seq == r.seq) reports (x ∷ [])))))
 
@@ -78,11 +78,11 @@ pub ahead_of_all : (all : List Report) (firsts : ℕ → Option Report) → ((s 
 ahead_of_all all firsts none = record { none_yet = refl; speak = λ r. refl; kept = none }
 
 -- a report that nothing opposes is no fork's later one
-passes : (done : List Report) (x : Report) (left : List Report) → opposed done x ≡ None → fork_after done (x ∷ left) ≡ fork_after (done ++ x ∷ []) left
+passes : (done : List Report) (x : Report) (left : List Report) → opposing_report done x ≡ None → fork_after done (x ∷ left) ≡ fork_after (done ++ x ∷ []) left
 passes done x left none = ap (λ o. option_or (option_map (λ q. fork_of q x) o) (fork_after (done ++ x ∷ []) left)) none
 
 -- what opposes is the first report of the sequence
-opposes : (done : List Report) (x f : Report) → FirstsSpeak done → first_of x.seq done ≡ Some f → (b : Bool) → same_id f.id x.id ≡ b → opposed done x ≡ (if not b then Some f else None)
+opposes : (done : List Report) (x f : Report) → FirstsSpeak done → first_of x.seq done ≡ Some f → (b : Bool) → same_id f.id x.id ≡ b → opposing_report done x ≡ (if not b then Some f else None)
 opposes done x f speak at b is = speak x ∙ (ap (if_other x) at ∙ ap (λ c. if not c then Some f else None) is)
 
 or_none : (o : Option Report) → option_or o None ≡ o
@@ -106,7 +106,7 @@ becomes_first s done x none is =
     find-append (λ q. q.seq == s) done (x ∷ [])
     ∙ (ap (λ o. option_or o (first_of s (x ∷ []))) none ∙ ap (λ b. if b then Some x else None) is)
 
-moved : (all done : List Report) (x : Report) (left : List Report) (firsts firsts' : ℕ → Option Report) → Ahead all done (x ∷ left) firsts → opposed done x ≡ None →
+moved : (all done : List Report) (x : Report) (left : List Report) (firsts firsts' : ℕ → Option Report) → Ahead all done (x ∷ left) firsts → opposing_report done x ≡ None →
     ((s : ℕ) → firsts' s ≡ first_of s (done ++ x ∷ [])) → Ahead all (done ++ x ∷ []) left firsts'
 moved all done x left firsts firsts' ahead none kept = record {
   none_yet = sym (passes done x left none) ∙ ahead.none_yet;

@@ -11,12 +11,12 @@ use Rattle.xl_world.specs.declared.act.NodeAnswer.{NodeAnswer}
 use Rattle.xl_world.specs.declared.place.Place.{Place}
 use Rattle.xl_world.specs.declared.place.Fate.{Fate}
 use Rattle.xl_world.specs.Disk.{answer_of}
-use Rattle.xl_world.specs.World.{place_at, put}
+use Rattle.xl_world.specs.World.{place_at, put_place}
 use Rattle.xl_world.specs.declared.place.Disk.{Disk}
 use Rattle.xl_world.specs.Seen.{IsAnswer, place_again, put_again, place_after, place_drained, put_acted, put_drained, given_at, acted_at, Answers, AnswersAt}
 use Rattle.xl_world.proofs.Keeping.{core_keeps}
 use Rattle.xl_world.proofs.Emptying.{node_still, turns_are}
-use Rattle.xl_world.specs.Emptying.{draining, given_by}
+use Rattle.xl_world.specs.Emptying.{drains_of, given_by}
 
 cons_same : {X : Type 0} (x y : X) (xs ys : List X) → x ≡ y → xs ≡ ys → x ∷ xs ≡ y ∷ ys
 cons_same x y xs ys p q = cc
@@ -30,7 +30,7 @@ there (x ∷ xs) i (suc k) d k_in is first =
     cond-false (x.core.node.me == i) _ _ (first 0 (omega arith)) ∙ there xs i k d (omega arith) is (λ j h. first (suc j) (omega arith))
 
 put_there : (xs : List Place) (i k : ℕ) (d y : Place) → k < length xs → ((get_or xs k d).core.node.me == i) ≡ true → ((j : ℕ) → j < k → ((get_or xs j d).core.node.me == i) ≡ false) → y.core.node.me ≡ i →
-    set xs k y ≡ put y xs
+    set xs k y ≡ put_place y xs
 put_there [] i k d y k_in is first its = absurd (omega arith)
 put_there (x ∷ xs) i zero d y k_in is first its = sym (cond-true (x.core.node.me == y.core.node.me) _ _ (ap (λ (m : ℕ). x.core.node.me == m) its ∙ is))
 put_there (x ∷ xs) i (suc k) d y k_in is first its =
@@ -60,7 +60,7 @@ found_within [] i k found = cc
 found_within (x ∷ xs) i k found = (position-Some (λ p. p.core.node.me == i) (x ∷ xs) k x found).0
 
 -- with another one put there
-pub put_found : (xs : List Place) (i k : ℕ) (d y : Place) → position (λ p. p.core.node.me == i) xs ≡ Some k → y.core.node.me ≡ (get_or xs k d).core.node.me → set xs k y ≡ put y xs
+pub put_found : (xs : List Place) (i k : ℕ) (d y : Place) → position (λ p. p.core.node.me == i) xs ≡ Some k → y.core.node.me ≡ (get_or xs k d).core.node.me → set xs k y ≡ put_place y xs
 put_found xs i k d y found same =
     let at = position-Some (λ p. p.core.node.me == i) xs k d found in put_there xs i k d y at.0 at.1 (λ j h. at.2 j h) (same ∙ eqb-true _ _ at.1)
 
@@ -71,19 +71,19 @@ none_there xs i none = nowhere xs i (none_found xs i none)
 pub acted_there : (xs : List Place) (i k : ℕ) (e : CoreEvent) (fate : Fate) (d y : Place) → position (λ p. p.core.node.me == i) xs ≡ Some k → y ≡ place_after (get_or xs k d) e fate → set xs k y ≡ acted_at i e fate xs
 acted_there xs i k e fate d y found is =
     put_found xs i k d y found (ap (λ (p : Place). p.core.node.me) is ∙ (core_keeps (get_or xs k d).core e (answer_of (get_or xs k d).disk fate)).0)
-    ∙ (ap (λ (p : Place). put p xs) is ∙ ap (λ o. put_acted e fate o xs) (sym (found_there xs i k d found)))
+    ∙ (ap (λ (p : Place). put_place p xs) is ∙ ap (λ o. put_acted e fate o xs) (sym (found_there xs i k d found)))
 
 -- a drain of the place that is found
 pub drained_there : (numbers : List ℕ) (xs : List Place) (i k : ℕ) (d y : Place) → position (λ p. p.core.node.me == i) xs ≡ Some k → y ≡ place_drained numbers (get_or xs k d) → set xs k y ≡ put_drained numbers (place_at i xs) xs
 drained_there numbers xs i k d y found is =
     let p : Place = get_or xs k d in
-    put_found xs i k d y found (ap (λ (p : Place). p.core.node.me) is ∙ ap (λ n. n.me) (node_still p.core (draining numbers p.core) (turns_are p.core _)))
-    ∙ (ap (λ (p : Place). put p xs) is ∙ ap (λ o. put_drained numbers o xs) (sym (found_there xs i k d found)))
+    put_found xs i k d y found (ap (λ (p : Place). p.core.node.me) is ∙ ap (λ n. n.me) (node_still p.core (drains_of numbers p.core) (turns_are p.core _)))
+    ∙ (ap (λ (p : Place). put_place p xs) is ∙ ap (λ o. put_drained numbers o xs) (sym (found_there xs i k d found)))
 
 pub drained_nowhere : (numbers : List ℕ) (xs : List Place) (i : ℕ) → position (λ p. p.core.node.me == i) xs ≡ None → xs ≡ put_drained numbers (place_at i xs) xs
 drained_nowhere numbers xs i none = ap (λ o. put_drained numbers o xs) (sym (none_there xs i none))
 
-pub given_there : (numbers : List ℕ) (xs : List Place) (i k : ℕ) (d : Place) → position (λ p. p.core.node.me == i) xs ≡ Some k → given_by (get_or xs k d).core (draining numbers (get_or xs k d).core) ≡ given_at numbers (place_at i xs)
+pub given_there : (numbers : List ℕ) (xs : List Place) (i k : ℕ) (d : Place) → position (λ p. p.core.node.me == i) xs ≡ Some k → given_by (get_or xs k d).core (drains_of numbers (get_or xs k d).core) ≡ given_at numbers (place_at i xs)
 given_there numbers xs i k d found = ap (given_at numbers) (sym (found_there xs i k d found))
 
 pub given_nowhere : (numbers : List ℕ) (xs : List Place) (i : ℕ) → position (λ p. p.core.node.me == i) xs ≡ None → [] ≡ given_at numbers (place_at i xs)
@@ -93,7 +93,7 @@ given_nowhere numbers xs i none = ap (given_at numbers) (sym (none_there xs i no
 pub again_there : (xs : List Place) (i k now : ℕ) (disk : Disk) (d y : Place) → position (λ p. p.core.node.me == i) xs ≡ Some k → y ≡ place_again (get_or xs k d) now disk → set xs k y ≡ put_again now disk (place_at i xs) xs
 again_there xs i k now disk d y found is =
     put_found xs i k d y found (ap (λ (p : Place). p.core.node.me) is)
-    ∙ (ap (λ (p : Place). put p xs) is ∙ ap (λ o. put_again now disk o xs) (sym (found_there xs i k d found)))
+    ∙ (ap (λ (p : Place). put_place p xs) is ∙ ap (λ o. put_again now disk o xs) (sym (found_there xs i k d found)))
 
 pub again_nowhere : (xs : List Place) (i now : ℕ) (disk : Disk) → position (λ p. p.core.node.me == i) xs ≡ None → xs ≡ put_again now disk (place_at i xs) xs
 again_nowhere xs i now disk none = ap (λ o. put_again now disk o xs) (sym (none_there xs i none))
@@ -103,16 +103,16 @@ pub answered_there : (xs : List Place) (i k : ℕ) (e : CoreEvent) (fate : Fate)
 answered_there xs i k e fate d a found is = subst (λ o. Answers e fate o (Some a)) (sym (found_there xs i k d found)) is
 
 -- a place comes in place of the one of its number
-pub put_nowhere : (x : Place) (ps : List Place) → place_at x.core.node.me ps ≡ None → put x ps ≡ ps
+pub put_nowhere : (x : Place) (ps : List Place) → place_at x.core.node.me ps ≡ None → put_place x ps ≡ ps
 put_nowhere x [] none = refl
 put_nowhere x (y ∷ ys) none =
-    cond_both (y.core.node.me == x.core.node.me) (Some y) (place_at x.core.node.me ys) (λ o. o ≡ None → put x (y ∷ ys) ≡ y ∷ ys)
+    cond_both (y.core.node.me == x.core.node.me) (Some y) (place_at x.core.node.me ys) (λ o. o ≡ None → put_place x (y ∷ ys) ≡ y ∷ ys)
     (λ _ here. cc)
     (λ other there. cond-false (y.core.node.me == x.core.node.me) _ _ other ∙ cons_same _ _ _ _ refl (put_nowhere x ys there))
     none
 
 -- and where there is none of its number, nothing changes
-pub put_none : (xs : List Place) (y : Place) → position (λ p. p.core.node.me == y.core.node.me) xs ≡ None → put y xs ≡ xs
+pub put_none : (xs : List Place) (y : Place) → position (λ p. p.core.node.me == y.core.node.me) xs ≡ None → put_place y xs ≡ xs
 put_none xs y none = put_nowhere y xs (none_there xs y.core.node.me none)
 
 pub on_ok : {X E : Type 0} (P Q : Type 0) (r : Result X E) → OnOk r P → (P → Q) → OnOk r Q

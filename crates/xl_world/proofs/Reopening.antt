@@ -13,7 +13,7 @@ use Rattle.xl_world.specs.Sending.{Sent}
 use Rattle.xl_world.specs.Disk.{found, held_by, left_by, restored}
 use Rattle.xl_world.specs.Schedule.{restart}
 use Rattle.xl_world.specs.Seen.{put_again, with_places}
-use Rattle.xl_world.specs.World.{Again, Torn, World, again, asked_at, moment_in, place_at, reopened, run, step, torn}
+use Rattle.xl_world.specs.World.{Again, Torn, World, again, asked_at, moment_in, place_at, reopened_world, run, step, torn_world}
 use Rattle.xl_world.proofs.Settling.{at_its_number}
 
 -- WHAT A KEEPER MAY HOLD
@@ -46,7 +46,7 @@ pub again_ran : (w : World) (i now number : ℕ) (p : Place) → place_at i w.pl
 again_ran w i now number p at may =
     ap (λ o. with_places w (put_again now (restored p.disk number) o w.places)) at
     ∙ (same_lists w _ (sym (append-nil w.sent)) (sym (append-nil w.reports)) (sym (append-nil w.lists))
-    ∙ (sym (cond-true (may_hold (held_by p.disk) number) (reopened w i p now number) w may)
+    ∙ (sym (cond-true (may_hold (held_by p.disk) number) (reopened_world w i p now number) w may)
     ∙ ap (λ o. again w i now number o) (sym at)))
 
 -- a restart
@@ -63,6 +63,6 @@ torn_ran w i e new p s at asked =
     let q : Place = record { core = p.core; disk = record p.disk { asked = Some s } } in
     ap (λ o. with_places w (put_again (moment_in e) (restored p.disk n) o w.places)) at
     ∙ (same_lists w _ (sym (append-nil w.sent)) (sym (append-nil w.reports)) (sym (append-nil w.lists))
-    ∙ (sym (cond-true (may_hold (held_by q.disk) n) (reopened w i q (moment_in e) n) w (left_held p.disk new s))
-    ∙ (ap (λ o. torn w i (moment_in e) n (Some p) o) (sym asked)
-    ∙ ap (λ o. torn w i (moment_in e) n o (asked_at o e)) (sym at))))
+    ∙ (sym (cond-true (may_hold (held_by q.disk) n) (reopened_world w i q (moment_in e) n) w (left_held p.disk new s))
+    ∙ (ap (λ o. torn_world w i (moment_in e) n (Some p) o) (sym asked)
+    ∙ ap (λ o. torn_world w i (moment_in e) n o (asked_at o e)) (sym at))))

@@ -6,7 +6,7 @@ use Rattle.std.proofs.lemmas.List.Elements.{All-append, All-cons, All-head, All-
 use Rattle.xl_lists.specs.Lists.{TrustedList}
 use Rattle.xl_lists.specs.declared.report.Report.{Report as Reported}
 use Rattle.xl_core.specs.Answers.{Done}
-use Rattle.xl_core.specs.Core.{CoreReply, answering}
+use Rattle.xl_core.specs.Core.{CoreReply, core_reply}
 use Rattle.xl_core.specs.Node.{Node}
 use Rattle.xl_core.specs.declared.report.Report.{Report}
 use Rattle.xl_world.specs.declared.place.Disk.{Disk}
@@ -18,21 +18,21 @@ use Rattle.xl_world.specs.declared.place.Fate.{Fate}
 use Rattle.xl_io.specs.Keepers.{may_hold}
 use Rattle.xl_world.specs.Disk.{answer_of, held_by, restored}
 use Rattle.xl_world.specs.Plans.{IsDeclared, AreDeclared, Shared, list_at}
-use Rattle.xl_world.specs.World.{World, Step, Act, Again, Torn, Mark, place_at, put, is_forged, settled, acts, reply_at, disk_after, reported_by, set_by, core_again, moment_in, reopened, again, torn, asked_at, step, run, core_in}
+use Rattle.xl_world.specs.World.{World, Step, Act, Again, Torn, Mark, place_at, put_place, is_forged, settled_world, acts, reply_at, disk_after, reported_by, set_by, core_again, moment_in, reopened_world, again, torn_world, asked_at, step, run, core_in}
 use Rattle.xl_world.specs.Starts.{start_of, start, IsRun}
 use Rattle.xl_world.proofs.Keeping.{core_keeps}
 use Rattle.xl_world.proofs.Listing.{at_node, run_has_lists}
 use Rattle.xl_world.proofs.Settling.{at_its_number}
 
 -- a place that is put is found where one of its number was, and nowhere else
-put_present : (j : ℕ) (q : Place) (ps : List Place) → is_some (place_at j (put q ps)) ≡ is_some (place_at j ps)
+put_present : (j : ℕ) (q : Place) (ps : List Place) → is_some (place_at j (put_place q ps)) ≡ is_some (place_at j ps)
 put_present j q [] = refl
 put_present j q (y ∷ ys) =
-    cond_both (y.core.node.me == q.core.node.me) (q ∷ ys) (y ∷ put q ys) (λ zs. is_some (place_at j zs) ≡ is_some (place_at j (y ∷ ys)))
+    cond_both (y.core.node.me == q.core.node.me) (q ∷ ys) (y ∷ put_place q ys) (λ zs. is_some (place_at j zs) ≡ is_some (place_at j (y ∷ ys)))
     (λ same. cond_both (q.core.node.me == j) (Some q) (place_at j ys) (λ o. is_some o ≡ is_some (place_at j (y ∷ ys)))
     (λ is. sym (ap is_some (cond-true (y.core.node.me == j) (Some y) _ (ap (λ (k : ℕ). k == j) (eqb-true _ _ same) ∙ is))))
     (λ is_not. sym (ap is_some (cond-false (y.core.node.me == j) (Some y) _ (ap (λ (k : ℕ). k == j) (eqb-true _ _ same) ∙ is_not)))))
-    (λ _. cond_both (y.core.node.me == j) (Some y) (place_at j (put q ys)) (λ o. is_some o ≡ is_some (place_at j (y ∷ ys)))
+    (λ _. cond_both (y.core.node.me == j) (Some y) (place_at j (put_place q ys)) (λ o. is_some o ≡ is_some (place_at j (y ∷ ys)))
     (λ is. sym (ap is_some (cond-true (y.core.node.me == j) (Some y) _ is)))
     (λ is_not. put_present j q ys ∙ sym (ap is_some (cond-false (y.core.node.me == j) (Some y) _ is_not))))
 
@@ -46,9 +46,9 @@ acts_present w i e fate (Some p) j = put_present j _ w.places
 
 again_present : (w : World) (i now number : ℕ) (o : Option Place) → StandsSame w (again w i now number o)
 again_present w i now number None j = refl
-again_present w i now number (Some p) j = cond_both (may_hold (held_by p.disk) number) (reopened w i p now number) w (λ v. is_some (place_at j v.places) ≡ is_some (place_at j w.places)) (λ _. put_present j _ w.places) (λ _. refl)
+again_present w i now number (Some p) j = cond_both (may_hold (held_by p.disk) number) (reopened_world w i p now number) w (λ v. is_some (place_at j v.places) ≡ is_some (place_at j w.places)) (λ _. put_present j _ w.places) (λ _. refl)
 
-torn_present : (w : World) (i now number : ℕ) (o : Option Place) (asked : Option ℕ) → StandsSame w (torn w i now number o asked)
+torn_present : (w : World) (i now number : ℕ) (o : Option Place) (asked : Option ℕ) → StandsSame w (torn_world w i now number o asked)
 torn_present w i now number None asked j = refl
 torn_present w i now number (Some p) None j = refl
 torn_present w i now number (Some p) (Some s) j = again_present w i now number (Some (record { core = p.core; disk = record p.disk { asked = Some s } })) j
@@ -92,14 +92,14 @@ of_report : (places : List Place) (n : Node) (o : Option Report) → is_some (pl
 of_report places n None stands = All-nil (λ r. is_some (place_at r.node places) ≡ true)
 of_report places n (Some q) stands = All-cons (λ r. is_some (place_at r.node places) ≡ true) (reported_by n q) [] stands (All-nil (λ r. is_some (place_at r.node places) ≡ true))
 
-settled_reporters : (w : World) (i : ℕ) (forged : Bool) (set : Option InForce) (p : Place) (r : CoreReply) (k : Disk) → place_at i w.places ≡ Some p → r.core.node.me ≡ p.core.node.me → HasReporters w → HasReporters (settled w i forged set r k)
+settled_reporters : (w : World) (i : ℕ) (forged : Bool) (set : Option InForce) (p : Place) (r : CoreReply) (k : Disk) → place_at i w.places ≡ Some p → r.core.node.me ≡ p.core.node.me → HasReporters w → HasReporters (settled_world w i forged set r k)
 settled_reporters w i forged set p r k at same has =
     let q : Place = record { core = r.core; disk = k } in
-    let stands : is_some (place_at r.core.node.me (put q w.places)) ≡ true =
+    let stands : is_some (place_at r.core.node.me (put_place q w.places)) ≡ true =
     put_present r.core.node.me q w.places ∙ (ap (λ (m : ℕ). is_some (place_at m w.places)) (same ∙ at_its_number i w.places p at) ∙ ap is_some at) in
-    All-append (λ x. is_some (place_at x.node (put q w.places)) ≡ true) w.reports (option_to_list (option_map (reported_by r.core.node) r.report))
+    All-append (λ x. is_some (place_at x.node (put_place q w.places)) ≡ true) w.reports (option_to_list (option_map (reported_by r.core.node) r.report))
     (All-weaker (λ x. is_some (place_at x.node w.places) ≡ true) _ (λ x there. put_present x.node q w.places ∙ there) w.reports has)
-    (of_report (put q w.places) r.core.node r.report stands)
+    (of_report (put_place q w.places) r.core.node r.report stands)
 
 acts_reporters : (w : World) (i : ℕ) (e : CoreEvent) (fate : Fate) → HasReporters w → (o : Option Place) → place_at i w.places ≡ o → HasReporters (acts w i e fate o)
 acts_reporters w i e fate has None at = has
@@ -109,14 +109,14 @@ acts_reporters w i e fate has (Some p) at =
 again_reporters : (w : World) (i now number : ℕ) → HasReporters w → (p : Place) → place_at i w.places ≡ Some p → (k : Disk) → HasReporters (again w i now number (Some (record { core = p.core; disk = k })))
 again_reporters w i now number has p at k =
     let q : Place = record { core = p.core; disk = k } in
-    cond_both (may_hold (held_by k) number) (reopened w i q now number) w HasReporters
-    (λ _. settled_reporters w i false None p (answering (core_again q now number) Done) (restored k number) at refl has) (λ _. has)
+    cond_both (may_hold (held_by k) number) (reopened_world w i q now number) w HasReporters
+    (λ _. settled_reporters w i false None p (core_reply (core_again q now number) Done) (restored k number) at refl has) (λ _. has)
 
 reopened_reporters : (w : World) (i now number : ℕ) → HasReporters w → (o : Option Place) → place_at i w.places ≡ o → HasReporters (again w i now number o)
 reopened_reporters w i now number has None at = has
 reopened_reporters w i now number has (Some p) at = again_reporters w i now number has p at p.disk
 
-torn_reporters : (w : World) (i now number : ℕ) → HasReporters w → (o : Option Place) → place_at i w.places ≡ o → (asked : Option ℕ) → HasReporters (torn w i now number o asked)
+torn_reporters : (w : World) (i now number : ℕ) → HasReporters w → (o : Option Place) → place_at i w.places ≡ o → (asked : Option ℕ) → HasReporters (torn_world w i now number o asked)
 torn_reporters w i now number has None at asked = has
 torn_reporters w i now number has (Some p) at None = has
 torn_reporters w i now number has (Some p) at (Some s) = again_reporters w i now number has p at (record p.disk { asked = Some s })

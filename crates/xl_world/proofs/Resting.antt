@@ -13,12 +13,12 @@ use Rattle.xl_tags.specs.Rings.{schedule_ring}
 use Rattle.xl_world.specs.declared.place.Fate.{Fate}
 use Rattle.xl_world.specs.declared.place.Place.{Place}
 use Rattle.xl_world.specs.declared.plan.PlanNode.{PlanNode}
-use Rattle.xl_world.specs.Emptying.{draining, event_steps, handed_out}
+use Rattle.xl_world.specs.Emptying.{drains_of, event_steps, handed_out}
 use Rattle.xl_world.specs.Disk.{answer_of}
 use Rattle.xl_world.specs.Plans.{Shared, all_numbers, is_declared, up_from}
 use Rattle.xl_world.specs.Rested.{Between, IsAtRest, IsRested}
 use Rattle.xl_world.specs.Starts.{start, start_of}
-use Rattle.xl_world.specs.World.{World, disk_after, place_at, put, reply_at, run}
+use Rattle.xl_world.specs.World.{World, disk_after, place_at, put_place, reply_at, run}
 use Rattle.xl_world.proofs.Emptying.{emptied, emptied_acts, emptied_node, event_ran, turns_are, untaken_still}
 use Rattle.xl_world.proofs.Keeping.{core_keeps}
 use Rattle.xl_world.proofs.Seats.{some_same}
@@ -49,14 +49,14 @@ emptied_rests : (numbers : List ℕ) (core : Core) → IsRested (handed_out core
 emptied_rests numbers core rested =
     let node : (emptied numbers core).node ≡ core.node = emptied_node numbers core in
     record {
-      untaken = ap (λ (q : Backlog Report). q.items) (untaken_still (handed_out core) (draining numbers (handed_out core)) (turns_are (handed_out core) _)) ∙ rested.untaken;
+      untaken = ap (λ (q : Backlog Report). q.items) (untaken_still (handed_out core) (drains_of numbers (handed_out core)) (turns_are (handed_out core) _)) ∙ rested.untaken;
       keys = ap (λ (n : Node). n.keys) node ∙ (rested.keys ∙ ap schedule_ring (sym (ap (λ (n : Node). n.me) node)));
     }
 
 -- A WORLD
 
 -- with a place that rests
-pub put_rests : (w v : World) (q : Place) → v.numbers ≡ w.numbers → v.places ≡ put q w.places → IsRested q.core → IsAtRest w → IsAtRest v
+pub put_rests : (w v : World) (q : Place) → v.numbers ≡ w.numbers → v.places ≡ put_place q w.places → IsRested q.core → IsAtRest w → IsAtRest v
 put_rests w v q numbers is rested rest = record {
   numbers = subst (Between 0) (sym numbers) rest.numbers;
   cores = λ j x h. elim (put_cases j q w.places x (ap (place_at j) (sym is) ∙ h)) [

@@ -21,7 +21,7 @@ use Rattle.xl_core.specs.Answers.{Done}
 use Rattle.xl_core.specs.Core.{Core, CoreReply, core_happens}
 use Rattle.xl_core.specs.CoreLives.{CoreHappening, core_after}
 use Rattle.xl_core.specs.Issuing.Save.{Kept as AnsweredOk, Failed as AnsweredFailed}
-use Rattle.xl_core.specs.Node.{Node, Event, Frame, Issue, Timer, Submit, Relist, Reply, Save, happens, at_moment, own_validation, issued_unless_off, refusing, replying, issuing_reply, taken_reply, timer_reply, timer_outcome, validates}
+use Rattle.xl_core.specs.Node.{Node, Event, Frame, Issue, Timer, Submit, Relist, Reply, Save, happens, at_moment, own_validation, issued_unless_off, refusing_reply, reply_with, issuing_reply, taken_reply, timer_reply, timer_outcome, validates}
 use Rattle.xl_core.proofs.Frames.{hearing_either}
 use Rattle.xl_core.proofs.Timing.{timing_by, submit_either, relist_either}
 use Rattle.xl_world.specs.World.{said_by}
@@ -38,7 +38,7 @@ abbrev KeepsBy : ℕ → Reply → Type 0
 KeepsBy kept r = Keeps kept r.issued r.node.kept
 
 issue_keeps : (n : Node) (v : Validation) (b : Bool) (off : Option ℕ) (save : Save) → (b ≡ true → n.kept < v.seq) →
-    KeepsBy n.kept (cond b (issued_unless_off n off save v) (refusing n (NotAfter n.kept)))
+    KeepsBy n.kept (cond b (issued_unless_off n off save v) (refusing_reply n (NotAfter n.kept)))
 issue_keeps n v true None AnsweredOk above = record { above = (above refl, refl); stays = omega (arith, above refl) }
 issue_keeps n v true None (AnsweredFailed count) above = record { above = tt; stays = omega arith }
 issue_keeps n v true (Some failed) save above = record { above = tt; stays = omega arith }
@@ -51,7 +51,7 @@ taking_keeps n from (speech.Proposal p) = record { above = tt; stays = omega ari
 taking_keeps n from (speech.TxSet ids) = record { above = tt; stays = omega arith }
 taking_keeps n from (speech.Tx tx) = record { above = tt; stays = omega arith }
 
-validating_keeps : (n : Node) (h : Header) (full b : Bool) (save : Save) → KeepsBy n.kept (cond b (issuing_reply n h.seq (header_id h) full save) (replying n Done []))
+validating_keeps : (n : Node) (h : Header) (full b : Bool) (save : Save) → KeepsBy n.kept (cond b (issuing_reply n h.seq (header_id h) full save) (reply_with n Done []))
 validating_keeps n h full true save = issue_keeps n (own_validation n h.seq (header_id h) full) (nat_lt n.kept h.seq) n.failed_save save (λ e. ltb-true _ _ e)
 validating_keeps n h full false save = record { above = tt; stays = omega arith }
 

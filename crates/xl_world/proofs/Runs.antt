@@ -11,7 +11,7 @@ use Rattle.xl_core.specs.declared.event.CoreEvent.{CoreEvent}
 use Rattle.xl_core.specs.declared.event.CoreEvent.TheVariants.{Issue, Frame, Timer}
 use Rattle.xl_core.specs.declared.hearing.Speech.TheVariants as speech
 use Rattle.xl_core.specs.Answers.{Done}
-use Rattle.xl_core.specs.Core.{Core, CoreReply, answering, core_asks}
+use Rattle.xl_core.specs.Core.{Core, CoreReply, core_reply, core_asks}
 use Rattle.xl_core.specs.Node as nodes
 use Rattle.xl_core.specs.Node.{Node, Save, settings_of}
 use Rattle.xl_core.proofs.Heard.{heard_parts}
@@ -24,7 +24,7 @@ use Rattle.xl_world.specs.Networks.{IsOpened, IsNew, HeadlineOfNetworks}
 use Rattle.xl_world.proofs.Standing.{FrameSays}
 use Rattle.xl_world.specs.World.{said_by}
 use Rattle.xl_world.specs.declared.place.Place.{Place}
-use Rattle.xl_world.specs.World.{World, Step, Act, Again, Torn, Mark, AreFit, IsFit, IsFitEvent, place_at, is_forged, set_by, acts, reply_at, disk_after, core_again, reopened, again, torn, moment_in, asked_at, marked, step, run}
+use Rattle.xl_world.specs.World.{World, Step, Act, Again, Torn, Mark, AreFit, IsFit, IsFitEvent, place_at, is_forged, set_by, acts, reply_at, disk_after, core_again, reopened_world, again, torn_world, moment_in, asked_at, marked_world, step, run}
 use Rattle.xl_world.specs.Starts.{start, IsRun}
 use Rattle.xl_world.proofs.Standing.{CoreSays, Stands}
 use Rattle.xl_world.proofs.NodeSteps.{asks_above, failed_rises, opened_well}
@@ -65,23 +65,23 @@ act_sound w i e fate fit sound (Some p) at same =
 
 -- a core opened again with a number that is not below its disk's
 reopened_sound : (w : World) (i now number : ℕ) → IsSound w → (p : Place) → place_at i w.places ≡ Some p → (k : ℕ) × (k ≤ number) × MayHold (held_by p.disk) k → (asked : Option ℕ) →
-    IsSound (reopened w i (record { core = p.core; disk = record p.disk { asked = asked } }) now number)
+    IsSound (reopened_world w i (record { core = p.core; disk = record p.disk { asked = asked } }) now number)
 reopened_sound w i now number sound p at low asked =
-    settled_sound w i false None p (answering (core_again p now number) Done) (restored (record p.disk { asked = asked }) number) at
+    settled_sound w i false None p (core_reply (core_again p now number) Done) (restored (record p.disk { asked = asked }) number) at
     (opened_core_steps p now number asked (sound.well i p at) low)
     (record { core = opened_core_says (IsGenuine w.liars w.said) (settings_of p.core.node) now number; sent = All-nil (FrameSays (IsGenuine w.liars w.said)) }) sound
 
 again_sound : (w : World) (i now number : ℕ) → IsSound w → (o : Option Place) → place_at i w.places ≡ o → IsSound (again w i now number o)
 again_sound w i now number sound None at = sound
 again_sound w i now number sound (Some p) at =
-    cond_both (may_hold (held_by p.disk) number) (reopened w i p now number) w IsSound
+    cond_both (may_hold (held_by p.disk) number) (reopened_world w i p now number) w IsSound
     (λ e. reopened_sound w i now number sound p at (number, omega arith, may_hold-true (held_by p.disk) number e) p.disk.asked) (λ _. sound)
 
-torn_sound : (w : World) (i now number : ℕ) → IsSound w → (p : Place) → place_at i w.places ≡ Some p → (asked : Option ℕ) → IfSome asked (λ s. p.core.node.kept < s) → IsSound (torn w i now number (Some p) asked)
+torn_sound : (w : World) (i now number : ℕ) → IsSound w → (p : Place) → place_at i w.places ≡ Some p → (asked : Option ℕ) → IfSome asked (λ s. p.core.node.kept < s) → IsSound (torn_world w i now number (Some p) asked)
 torn_sound w i now number sound p at None above = sound
 torn_sound w i now number sound p at (Some s) above =
     let k : Disk = record p.disk { asked = Some s } in
-    cond_both (may_hold (held_by k) number) (reopened w i (record { core = p.core; disk = k }) now number) w IsSound
+    cond_both (may_hold (held_by k) number) (reopened_world w i (record { core = p.core; disk = k }) now number) w IsSound
     (λ e. reopened_sound w i now number sound p at (failed_rises p.disk s number (omega (arith, above, (sound.well i p at).in_force)) (may_hold-true (held_by k) number e)) (Some s))
     (λ _. sound)
 
@@ -91,12 +91,12 @@ asked_above core (Issue now seq id full) = asks_above core.node (nodes.Issue now
 asked_above core (Timer now) = asks_above core.node (nodes.Timer now)
 asked_above core other = tt
 
-torn_at : (w : World) (i now number : ℕ) (e : CoreEvent) → IsSound w → (o : Option Place) → place_at i w.places ≡ o → IsSound (torn w i now number o (asked_at o e))
+torn_at : (w : World) (i now number : ℕ) (e : CoreEvent) → IsSound w → (o : Option Place) → place_at i w.places ≡ o → IsSound (torn_world w i now number o (asked_at o e))
 torn_at w i now number e sound None at = sound
 torn_at w i now number e sound (Some p) at = torn_sound w i now number sound p at (core_asks p.core e) (asked_above p.core e)
 
 -- where the mark stands says nothing
-marked_sound : (w : World) → IsSound w → IsSound (marked w)
+marked_sound : (w : World) → IsSound w → IsSound (marked_world w)
 marked_sound w sound = record {
   kept = record {
     saved = sound.kept.saved;
@@ -128,9 +128,9 @@ acts_stays w i e fate (Some p) = record { liars = refl; forged = cond_both (is_f
 again_stays : (w : World) (i now number : ℕ) (o : Option Place) → Stays w (again w i now number o)
 again_stays w i now number None = record { liars = refl; forged = λ h. h; spent = refl }
 again_stays w i now number (Some p) =
-    cond_both (may_hold (held_by p.disk) number) (reopened w i p now number) w (Stays w) (λ _. record { liars = refl; forged = λ h. h; spent = refl }) (λ _. record { liars = refl; forged = λ h. h; spent = refl })
+    cond_both (may_hold (held_by p.disk) number) (reopened_world w i p now number) w (Stays w) (λ _. record { liars = refl; forged = λ h. h; spent = refl }) (λ _. record { liars = refl; forged = λ h. h; spent = refl })
 
-torn_stays : (w : World) (i now number : ℕ) (o : Option Place) (asked : Option ℕ) → Stays w (torn w i now number o asked)
+torn_stays : (w : World) (i now number : ℕ) (o : Option Place) (asked : Option ℕ) → Stays w (torn_world w i now number o asked)
 torn_stays w i now number None asked = record { liars = refl; forged = λ h. h; spent = refl }
 torn_stays w i now number (Some p) None = record { liars = refl; forged = λ h. h; spent = refl }
 torn_stays w i now number (Some p) (Some s) = again_stays w i now number (Some (record { core = p.core; disk = record p.disk { asked = Some s } }))

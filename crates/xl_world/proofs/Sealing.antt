@@ -20,9 +20,9 @@ use Rattle.xl_tags.proofs.PairKeyLaws.{pair_key_of-comm}
 use Rattle.xl_tags.proofs.RingLaws.{key_at}
 use Rattle.xl_tags.proofs.SealingLaws.{before_tag-with_tag}
 use Rattle.xl_core.specs.Hearing.{bytes_as_sealed}
-use Rattle.xl_core.specs.Items.{framed}
+use Rattle.xl_core.specs.Items.{frame_for}
 use Rattle.xl_core.specs.Node.{Node}
-use Rattle.xl_core.specs.Sending.{blank_frame, blanked, has_spelling, sealed_bytes}
+use Rattle.xl_core.specs.Sending.{blank_frame, without_tag, has_spelling, sealed_bytes}
 use Rattle.xl_core.proofs.Blanks.{blanked_tag}
 use Rattle.xl_core.proofs.Heard.{as_sealed_bytes}
 use Rattle.xl_core.proofs.Spelling.{sealed_raw}
@@ -54,7 +54,7 @@ sealed_anyhow me to f tag ok long from is_to mine its other =
 
 -- these bytes are sealed for a receiver as what is left of them with the tag cleared
 abbrev pub IsFor : ℕ → List ℕ → Type 0
-IsFor to bytes = bytes_as_sealed (schedule_ring to) (blanked bytes) ≡ bytes
+IsFor to bytes = bytes_as_sealed (schedule_ring to) (without_tag bytes) ≡ bytes
 
 body_for : (ring : Ring) (me to : ℕ) (body : Body) → ring ≡ schedule_ring me → IsNumber me → IsNumber to → to ≢ me → has_spelling me to body ≡ true → IsFor to (sealed_bytes ring me to body)
 body_for ring me to body same mine its other spelled =
@@ -65,16 +65,16 @@ body_for ring me to body same mine its other spelled =
     (ap (bytes_as_sealed (schedule_ring to)) (blanked_tag f (sealed (schedule_ring me) f).tag s.tag) ∙ sealed_anyhow me to f (replicate 32 0) ok refl refl refl mine its other)
 
 -- so are the frames of a node with a schedule's keys
-pub framed_for : (n : Node) (to : ℕ) (body : Body) → n.keys ≡ schedule_ring n.me → IsNumber n.me → IsNumber to → to ≢ n.me → IfSome (framed n to body) (IsFor to)
+pub framed_for : (n : Node) (to : ℕ) (body : Body) → n.keys ≡ schedule_ring n.me → IsNumber n.me → IsNumber to → to ≢ n.me → IfSome (frame_for n to body) (IsFor to)
 framed_for n to body same mine its other =
     cond_both (has_spelling n.me to body) (Some (sealed_bytes n.keys n.me to body)) None (λ o. IfSome o (IsFor to))
     (λ spelled. body_for n.keys n.me to body same mine its other spelled) (λ _. tt)
 
 -- and they were sent as they are
-pub sent_so : (from to : ℕ) (frames : List (List ℕ)) → All (IsFor to) frames → map (sent_as from to) (map blanked frames) ≡ map (sent_from from to) frames
+pub sent_so : (from to : ℕ) (frames : List (List ℕ)) → All (IsFor to) frames → map (sent_as from to) (map without_tag frames) ≡ map (sent_from from to) frames
 sent_so from to [] all = refl
 sent_so from to (f ∷ fs) all =
-    ap (λ (xs : List Sent). sent_as from to (blanked f) ∷ xs) (sent_so from to fs (All-tail (IsFor to) f fs all))
+    ap (λ (xs : List Sent). sent_as from to (without_tag f) ∷ xs) (sent_so from to fs (All-tail (IsFor to) f fs all))
     ∙ ap (λ (bytes : List ℕ). sent_from from to bytes ∷ map (sent_from from to) fs) (All-head (IsFor to) f fs all)
 
 -- WHAT IS KEPT

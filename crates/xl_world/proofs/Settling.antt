@@ -20,7 +20,7 @@ use Rattle.xl_world.specs.World.{said_by}
 use Rattle.xl_world.specs.declared.place.Place.{Place}
 use Rattle.xl_world.specs.declared.plan.InForce.{InForce}
 use Rattle.xl_world.specs.Disk.{held_by}
-use Rattle.xl_world.specs.World.{World, place_at, put, sent_in, settled}
+use Rattle.xl_world.specs.World.{World, place_at, put_place, sent_in, settled_world}
 use Rattle.xl_world.proofs.Standing.{Holds, ItemSays, CoreSays, IsKept}
 use Rattle.xl_world.proofs.Seats.{IsWell, IsStep, if_some, some_same, spoken, spoken_fact, report_backed}
 
@@ -45,15 +45,15 @@ at_its_number i (x ∷ xs) p h =
     (λ is here. subst (λ (q : Place). q.core.node.me ≡ i) (sym (some_same x p here)) (eqb-true _ _ is)) (λ _ there. at_its_number i xs p there) h
 
 -- after a place is put, a number's place is that one or as before
-pub put_cases : (j : ℕ) (x : Place) (ps : List Place) (p : Place) → place_at j (put x ps) ≡ Some p →
+pub put_cases : (j : ℕ) (x : Place) (ps : List Place) (p : Place) → place_at j (put_place x ps) ≡ Some p →
     ((j ≡ x.core.node.me) × (p ≡ x)) ⊎ ((j ≡ x.core.node.me → ⊥) × (place_at j ps ≡ Some p))
 put_cases j x [] p h = cc
 put_cases j x (y ∷ ys) p h =
-    cond_both (y.core.node.me == x.core.node.me) (x ∷ ys) (y ∷ put x ys) (λ ps. place_at j ps ≡ Some p → ((j ≡ x.core.node.me) × (p ≡ x)) ⊎ ((j ≡ x.core.node.me → ⊥) × (place_at j (y ∷ ys) ≡ Some p)))
+    cond_both (y.core.node.me == x.core.node.me) (x ∷ ys) (y ∷ put_place x ys) (λ ps. place_at j ps ≡ Some p → ((j ≡ x.core.node.me) × (p ≡ x)) ⊎ ((j ≡ x.core.node.me → ⊥) × (place_at j (y ∷ ys) ≡ Some p)))
     (λ same. cond_both (x.core.node.me == j) (Some x) (place_at j ys) (λ o. o ≡ Some p → ((j ≡ x.core.node.me) × (p ≡ x)) ⊎ ((j ≡ x.core.node.me → ⊥) × (place_at j (y ∷ ys) ≡ Some p)))
     (λ is here. inl (sym (eqb-true _ _ is), some_same x p here))
     (λ is_not there. inr ((λ e. eqb-false _ _ is_not (sym e)), (cond-false _ (Some y) _ (ap (λ (k : ℕ). k == j) (eqb-true _ _ same) ∙ is_not) ∙ there))))
-    (λ other. cond_both (y.core.node.me == j) (Some y) (place_at j (put x ys)) (λ o. o ≡ Some p → ((j ≡ x.core.node.me) × (p ≡ x)) ⊎ ((j ≡ x.core.node.me → ⊥) × (place_at j (y ∷ ys) ≡ Some p)))
+    (λ other. cond_both (y.core.node.me == j) (Some y) (place_at j (put_place x ys)) (λ o. o ≡ Some p → ((j ≡ x.core.node.me) × (p ≡ x)) ⊎ ((j ≡ x.core.node.me → ⊥) × (place_at j (y ∷ ys) ≡ Some p)))
     (λ is here. inr ((λ e. eqb-false _ _ other (eqb-true _ _ is ∙ e)), (cond-true _ (Some y) _ is ∙ here)))
     (λ is_not there. elim (put_cases j x ys p there) [
       | inl found ↦ inl found
@@ -86,7 +86,7 @@ abbrev pub GenuineThen : World → ℕ → CoreReply → SaidLedger → Type 0
 GenuineThen w i r = IsGenuine w.liars (with_said w.said (spoken i r.issued))
 
 pub settled_sound : (w : World) (i : ℕ) (forged : Bool) (set : Option InForce) (p : Place) (r : CoreReply) (k : Disk) → place_at i w.places ≡ Some p → IsStep (seat p.core p.disk) (node_reply r) k →
-    ReplySays (GenuineThen w i r) r → IsSound w → IsSound (settled w i forged set r k)
+    ReplySays (GenuineThen w i r) r → IsSound w → IsSound (settled_world w i forged set r k)
 settled_sound w i forged set p r k at steps says sound =
     let q : Place = record { core = r.core; disk = k } in
     let its : i ≡ r.core.node.me = sym (steps.me ∙ at_its_number i w.places p at) in
@@ -102,7 +102,7 @@ settled_sound w i forged set p r k at steps says sound =
             ];
             above = spoken_fact (λ x. (n : ℕ) × (n < x.seq) × Holds w x.member n) i r.issued
                 (if_some _ _ (λ v low. (low.0, low.1, (p, at, low.2))) r.issued steps.above);
-            saved = spoken_fact (λ x. (n : ℕ) → Holds (settled w i forged set r k) x.member n → x.seq ≤ n) i r.issued
+            saved = spoken_fact (λ x. (n : ℕ) → Holds (settled_world w i forged set r k) x.member n → x.seq ≤ n) i r.issued
                 (if_some _ _ (λ v high n (x, h, may). elim (put_cases i q w.places x h) [
                   | inl (_, same_x) ↦ high n (subst (λ (y : Place). MayHold (held_by y.disk) n) same_x may)
                   | inr (not_its, _) ↦ absurd (not_its its)

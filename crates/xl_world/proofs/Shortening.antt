@@ -9,11 +9,11 @@ use Rattle.xl_wire.specs.Lengths.{longest_frame}
 use Rattle.xl_core.specs.declared.the_core.greeting.Greeting.{Greeting}
 use Rattle.xl_core.specs.declared.item.Item.{Item}
 use Rattle.xl_core.specs.Answers.{given_in}
-use Rattle.xl_core.specs.Core.{Core, all_frames, drained, given_for, greeted_frames}
+use Rattle.xl_core.specs.Core.{Core, all_frames, after_drain, given_for, greeted_frames}
 use Rattle.xl_core.specs.Greetings.{chain_to, further, further_at, greeting_at, greeting_frames}
-use Rattle.xl_core.specs.Items.{frames_for, frame_of, framed, header_body_at}
+use Rattle.xl_core.specs.Items.{frames_for, frame_of, frame_for, header_body_at}
 use Rattle.xl_core.specs.Node.{Node}
-use Rattle.xl_core.specs.Queues.{after_taking, at_number, fitting, frames_in, waiting_at}
+use Rattle.xl_core.specs.Queues.{after_taking, at_number, count_fitting, frames_in, waiting_at}
 use Rattle.xl_world.specs.Emptying.{drained_once}
 
 abbrev Frames : Type 0
@@ -28,13 +28,13 @@ some_of (suc n) (f ∷ fs) some = omega arith
 
 -- where a front of these and those gives something, fewer of these are left, or, where there are none of these, fewer of
 -- those
-shorter : (gs ws : Frames) (room : ℕ) → (length (frames_in (take (fitting (gs ++ ws) room) (gs ++ ws))) ≡ 0 → ⊥) →
-    (length gs - fitting gs room) + (length ws - length (drop (length gs) (take (fitting (gs ++ ws) room) (gs ++ ws)))) < length gs + length ws
-shorter [] ws room some = omega (arith, some_of (fitting ws room) ws some, length-take (fitting ws room) ws)
+shorter : (gs ws : Frames) (room : ℕ) → (length (frames_in (take (count_fitting (gs ++ ws) room) (gs ++ ws))) ≡ 0 → ⊥) →
+    (length gs - count_fitting gs room) + (length ws - length (drop (length gs) (take (count_fitting (gs ++ ws) room) (gs ++ ws)))) < length gs + length ws
+shorter [] ws room some = omega (arith, some_of (count_fitting ws room) ws some, length-take (count_fitting ws room) ws)
 shorter (None ∷ gs) ws room some = omega arith
 shorter (Some f ∷ gs) ws room some = elim (cases_Bool (nat_le (length f) room)) [
-  | inl fits ↦ omega (arith, cond-true (nat_le (length f) room) (suc (fitting gs (room - length f))) 0 fits)
-  | inr long ↦ absurd (some (ap (λ (n : ℕ). length (frames_in (take n (Some f ∷ (gs ++ ws))))) (cond-false (nat_le (length f) room) (suc (fitting (gs ++ ws) (room - length f))) 0 long)))
+  | inl fits ↦ omega (arith, cond-true (nat_le (length f) room) (suc (count_fitting gs (room - length f))) 0 fits)
+  | inr long ↦ absurd (some (ap (λ (n : ℕ). length (frames_in (take n (Some f ∷ (gs ++ ws))))) (cond-false (nat_le (length f) room) (suc (count_fitting (gs ++ ws) (room - length f))) 0 long)))
 ]
 
 -- WHAT IS LEFT
@@ -61,8 +61,8 @@ further_short n to count (Some g) =
     let headers : List ℕ = chain_to n.ledgers.headers g.target in
     omega (
       arith,
-      length-map (drop (g.next + count) headers) (λ ledger. framed n to (header_body_at n ledger)),
-      length-map (drop g.next headers) (λ ledger. framed n to (header_body_at n ledger)),
+      length-map (drop (g.next + count) headers) (λ ledger. frame_for n to (header_body_at n ledger)),
+      length-map (drop g.next headers) (λ ledger. frame_for n to (header_body_at n ledger)),
       length-drop (g.next + count) headers,
       length-drop g.next headers,
     )
@@ -81,15 +81,15 @@ greeting_short n greetings (suc place) to count =
     ]
 
 -- how many frames a drain leaves for its number
-pub left_after : (core : Core) (m room : ℕ) → length (all_frames (drained core m room) m)
-    ≡ (length (greeted_frames core m) - fitting (greeted_frames core m) room)
+pub left_after : (core : Core) (m room : ℕ) → length (all_frames (after_drain core m room) m)
+    ≡ (length (greeted_frames core m) - count_fitting (greeted_frames core m) room)
     + (length (frames_for core.node core.waiting m) - length (drop (length (greeted_frames core m)) (given_for core m room)))
 left_after core m room =
     let gs : Frames = greeted_frames core m in
     let ws : Frames = frames_for core.node core.waiting m in
-    let after : Core = drained core m room in
+    let after : Core = after_drain core m room in
     let taken : Frames = drop (length gs) (given_for core m room) in
-    let greeted : length (greeted_frames after m) ≡ length gs - fitting gs room = greeting_short core.node core.greetings m m (fitting gs room) in
+    let greeted : length (greeted_frames after m) ≡ length gs - count_fitting gs room = greeting_short core.node core.greetings m m (count_fitting gs room) in
     let waits : length (frames_for core.node after.waiting m) ≡ length ws - length taken =
     length-map (waiting_at after.waiting m).items (frame_of core.node m)
     ∙ (queue_short core.waiting m taken ∙ ap (λ (k : ℕ). k - length taken) (sym (length-map (waiting_at core.waiting m).items (frame_of core.node m)))) in

@@ -5,7 +5,6 @@ use Rattle.xl_queues.specs.Queues.{Backlog, with_item}
 use Rattle.xl_core.specs.declared.refusal.Refusal.{Refusal}
 use Rattle.xl_core.specs.declared.report.Report.{Report}
 use Rattle.xl_core.specs.Answers.{Answer, Refused, Done}
-use Rattle.xl_core.specs.Node as nodes
 use Rattle.xl_core.specs.Queues.{with_report}
 
 pub one_taken : (items room old : List Report) (written : ℕ) (d : Report) → length items ≤ 1 → written ≡ length (take 1 items) → (written ≡ 0 → ⊥) → room ≡ take 1 items ++ drop written old → get_or room 0 d ∷ [] ≡ items

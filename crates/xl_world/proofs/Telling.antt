@@ -11,7 +11,7 @@ use Rattle.xl_world.specs.declared.outcome.Outcome.TheVariants.{Full}
 use Rattle.xl_world.specs.declared.place.Fate.{Fate}
 use Rattle.xl_world.specs.declared.place.Fate.TheVariants.{Saved}
 use Rattle.xl_world.specs.declared.place.Place.{Place}
-use Rattle.xl_world.specs.Emptying.{draining, emptying_at, event_steps, handed_out}
+use Rattle.xl_world.specs.Emptying.{drains_of, emptying_at, event_steps, handed_out}
 use Rattle.xl_world.specs.Schedule.{told_in, told_of_answer, told_of_reply, told_of_step}
 use Rattle.xl_world.specs.Seen.{Answers, AnswersAt, outcomes_told}
 use Rattle.xl_world.specs.World.{Act, Step, World, place_at, reply_at, run, step}
@@ -48,8 +48,8 @@ emptying_told : (w v : World) (i : ℕ) (e : CoreEvent) (fate : Fate) (o : Optio
 emptying_told w v i e fate None = refl
 emptying_told w v i e fate (Some p) =
     let core : Core = handed_out (reply_at p e fate).core in
-    nothing_more v (Act i (Reports 1) Saved) (map (λ d. Act i d Saved) (draining w.numbers core)) (reports_told i 1 (place_at i v.places))
-    (drains_told (step v (Act i (Reports 1) Saved)) i (draining w.numbers core) (turns_are core _))
+    nothing_more v (Act i (Reports 1) Saved) (map (λ d. Act i d Saved) (drains_of w.numbers core)) (reports_told i 1 (place_at i v.places))
+    (drains_told (step v (Act i (Reports 1) Saved)) i (drains_of w.numbers core) (turns_are core _))
 
 -- what is told of an event and of the emptying that follows is what is told of the event
 pub told_once : (w : World) (i : ℕ) (e : CoreEvent) (fate : Fate) → told_in w (event_steps w i e fate) ≡ told_of_reply i (option_map (λ p. reply_at p e fate) (place_at i w.places))

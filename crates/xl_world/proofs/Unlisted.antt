@@ -12,7 +12,7 @@ use Rattle.xl_world.specs.declared.place.Place.{Place}
 use Rattle.xl_world.specs.declared.plan.InForce.{InForce}
 use Rattle.xl_world.specs.Disk.{held_by}
 use Rattle.xl_world.specs.Schedule.{steps_at}
-use Rattle.xl_world.specs.World.{World, Step, Act, Again, Torn, Mark, place_at, set_by, acts, reply_at, reopened, again, torn, moment_in, asked_at, step, run}
+use Rattle.xl_world.specs.World.{World, Step, Act, Again, Torn, Mark, place_at, set_by, acts, reply_at, reopened_world, again, torn_world, moment_in, asked_at, step, run}
 use Rattle.xl_world.proofs.Fitting.{Does, OfAll, OfList, steps_do}
 
 abbrev pub SetsNone : CoreEvent → Type 0
@@ -26,9 +26,9 @@ act_stays w i e fate none (Some p) =
 again_stays : (w : World) (i now number : ℕ) (o : Option Place) → (again w i now number o).lists ≡ w.lists
 again_stays w i now number None = refl
 again_stays w i now number (Some p) =
-    cond_both (may_hold (held_by p.disk) number) (reopened w i p now number) w (λ (u : World). u.lists ≡ w.lists) (λ _. append-nil w.lists) (λ _. refl)
+    cond_both (may_hold (held_by p.disk) number) (reopened_world w i p now number) w (λ (u : World). u.lists ≡ w.lists) (λ _. append-nil w.lists) (λ _. refl)
 
-torn_stays : (w : World) (i now number : ℕ) (o : Option Place) (asked : Option ℕ) → (torn w i now number o asked).lists ≡ w.lists
+torn_stays : (w : World) (i now number : ℕ) (o : Option Place) (asked : Option ℕ) → (torn_world w i now number o asked).lists ≡ w.lists
 torn_stays w i now number None asked = refl
 torn_stays w i now number (Some p) None = refl
 torn_stays w i now number (Some p) (Some s) = again_stays w i now number (Some (record { core = p.core; disk = record p.disk { asked = Some s } }))

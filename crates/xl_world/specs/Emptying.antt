@@ -56,16 +56,16 @@ abbrev pub others : List ℕ → ℕ → List ℕ
 others numbers me = filter (λ member. not (member == me)) numbers
 
 -- what waits for the other declared numbers is drained
-abbrev pub draining : List ℕ → Core → List CoreEvent
-draining numbers core = drains_in_turn core (others numbers core.node.me)
+abbrev pub drains_of : List ℕ → Core → List CoreEvent
+drains_of numbers core = drains_in_turn core (others numbers core.node.me)
 
 -- the report that arose is handed out before
-abbrev pub emptying : List ℕ → Core → List CoreEvent
-emptying numbers core = Reports 1 ∷ draining numbers (handed_out core)
+abbrev pub drains_and_report : List ℕ → Core → List CoreEvent
+drains_and_report numbers core = Reports 1 ∷ drains_of numbers (handed_out core)
 
 abbrev pub emptying_at : List ℕ → ℕ → CoreEvent → Fate → Option Place → List Step
 emptying_at numbers i event fate None = []
-emptying_at numbers i event fate (Some p) = map (λ e. Act i e Saved) (emptying numbers (reply_at p event fate).core)
+emptying_at numbers i event fate (Some p) = map (λ e. Act i e Saved) (drains_and_report numbers (reply_at p event fate).core)
 
 -- an event at a core, after which it is emptied
 abbrev pub event_steps : World → ℕ → CoreEvent → Fate → List Step

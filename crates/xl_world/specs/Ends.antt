@@ -6,12 +6,12 @@ use Rattle.xl_world.specs.Starts.{IsRun}
 use Rattle.xl_world.specs.World.{World}
 
 -- what is left of a world when an event runs out of memory: all that was sent, said and reported before that event
-abbrev pub ended : World → World
-ended w = record w { places = []; spent = true }
+abbrev pub spent_world : World → World
+spent_world w = record w { places = []; spent = true }
 
 -- the world is what is left of a run
 abbrev pub IsLeft : World → Type 0
-IsLeft w = (before : World) × IsRun before × (w ≡ ended before)
+IsLeft w = (before : World) × IsRun before × (w ≡ spent_world before)
 
 -- HOW IT IS CUT BACK
 

@@ -13,14 +13,14 @@ pub record Fork : Type 0 where
   pub later : Report
 
 -- the first of the earlier reports that has this one's sequence and another id
-abbrev pub opposed : List Report → Report → Option Report
-opposed earlier r = find (λ q. q.seq == r.seq && not (same_id q.id r.id)) earlier
+abbrev pub opposing_report : List Report → Report → Option Report
+opposing_report earlier r = find (λ q. q.seq == r.seq && not (same_id q.id r.id)) earlier
 
 -- the first report that is opposed by an earlier one, and the first such one
 abbrev pub fork_after : List Report → List Report → Option Fork
 fork_after earlier [] = None
 fork_after earlier (r ∷ rs) =
-    option_or (option_map (λ q. record { earlier = q; later = r }) (opposed earlier r))
+    option_or (option_map (λ q. record { earlier = q; later = r }) (opposing_report earlier r))
     (fork_after (earlier ++ r ∷ []) rs)
 
 abbrev pub first_fork : List Report → Option Fork

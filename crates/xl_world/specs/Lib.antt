@@ -17,5 +17,6 @@ pub mod Seen
 pub mod Indexes
 pub mod Worlds
 pub mod Sending
+pub mod Itemwise
 pub mod Parts
 pub mod Laws

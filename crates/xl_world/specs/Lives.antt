@@ -12,7 +12,7 @@ use Rattle.xl_core.specs.declared.settings.Settings.{Settings}
 use Rattle.xl_core.specs.Core.{Core, core_happens, with_queues}
 use Rattle.xl_core.specs.CoreLives.{CoreHappening, core_after, given_over}
 use Rattle.xl_core.specs.Hearing.{spoken_in}
-use Rattle.xl_core.specs.Node.{opened}
+use Rattle.xl_core.specs.Node.{opened_node}
 use Rattle.xl_world.specs.World.{IsFitEvent, reported_by, said_by}
 
 -- a core's life: how it was opened, and what happened to it since
@@ -23,7 +23,7 @@ pub record Life : Type 0 where
   pub happenings : List CoreHappening
 
 abbrev pub first_of : Life → Core
-first_of l = with_queues (opened l.settings l.moment l.kept)
+first_of l = with_queues (opened_node l.settings l.moment l.kept)
 
 abbrev pub last_of : Life → Core
 last_of l = core_after (first_of l) l.happenings

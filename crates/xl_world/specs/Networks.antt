@@ -5,7 +5,7 @@ use Rattle.xl_lists.specs.Agreement.{Agree}
 use Rattle.xl_lists.specs.Lists.{IsValid}
 use Rattle.xl_core.specs.declared.settings.Settings.{Settings}
 use Rattle.xl_core.specs.Core.{with_queues}
-use Rattle.xl_core.specs.Node.{opened}
+use Rattle.xl_core.specs.Node.{opened_node}
 use Rattle.xl_world.specs.declared.place.Place.{Place}
 use Rattle.xl_world.specs.Disk.{resting}
 use Rattle.xl_world.specs.World.{World, Step, AreFit, run}
@@ -16,7 +16,7 @@ pub record IsOpened (p : Place) : Type 0 where
   pub moment : ℕ
   pub kept : ℕ
   pub list : IsValid settings.list
-  pub opened : p ≡ record { core = with_queues (opened settings moment kept); disk = resting kept }
+  pub opened : p ≡ record { core = with_queues (opened_node settings moment kept); disk = resting kept }
 
 -- a network of such nodes, in which nothing was sent, said or reported yet
 pub record IsNew (w : World) : Type 0 where

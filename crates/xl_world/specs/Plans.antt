@@ -26,8 +26,8 @@ pub record Shared : Type 0 where
   pub speak : ℕ
 
 -- what a declared node is opened with
-abbrev pub planned : Shared → PlanNode → Settings
-planned shared d = record {
+abbrev pub planned_settings : Shared → PlanNode → Settings
+planned_settings shared d = record {
   me = d.me;
   list = d.list;
   keys = schedule_ring d.me;

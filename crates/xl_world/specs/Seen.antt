@@ -13,7 +13,9 @@ use Rattle.xl_core.specs.Answers as answer
 use Rattle.xl_core.specs.Core.{Core, core_asks, core_happens}
 use Rattle.xl_core.specs.Deeds.{MayUnder, event_under}
 use Rattle.xl_core.specs.Deeds.{answer_of as told_as}
+use Rattle.xl_core.specs.Hearing.{Carries}
 use Rattle.xl_core.specs.Node.{Node}
+use Rattle.xl_wire.specs.declared.body.Body.{Body}
 use Rattle.xl_core.specs.declared.core_answer.CoreAnswer.{CoreAnswer}
 use Rattle.xl_core.specs.declared.core_answer.CoreAnswer.TheVariants as told
 use Rattle.xl_core.specs.declared.deed.Deed.{Deed}
@@ -39,12 +41,12 @@ use Rattle.xl_world.specs.declared.place.Place.{Place}
 use Rattle.xl_world.specs.declared.plan.InForce.{InForce}
 use Rattle.xl_world.specs.declared.saving.Fated.{Fated}
 use Rattle.xl_world.specs.Sending.{Sent}
-use Rattle.xl_world.specs.Emptying.{after_events, draining, given_by, handed_out}
+use Rattle.xl_world.specs.Emptying.{after_events, drains_of, given_by, handed_out}
 use Rattle.xl_world.specs.Forgeries.{forges}
 use Rattle.xl_world.specs.Forks as Forks
 use Rattle.xl_world.specs.Disk.{after_save, answer_of}
 use Rattle.xl_world.specs.Schedule.{told_of_answer}
-use Rattle.xl_world.specs.World.{World, core_again, disk_after, place_at, put, reply_at, reported_by, said_by, set_by}
+use Rattle.xl_world.specs.World.{World, core_again, disk_after, place_at, put_place, reply_at, reported_by, said_by, set_by}
 
 abbrev pub fork_seen : Fork → Forks.Fork
 fork_seen f = record { earlier = f.earlier.now; later = f.later.now }
@@ -121,9 +123,13 @@ no_answer = record { told = told.Done; asked = None; said = None; report = None;
 abbrev pub place_after : Place → CoreEvent → Fate → Place
 place_after p e fate = record { core = handed_out (reply_at p e fate).core; disk = disk_after p e fate }
 
+-- bytes are a frame that carries this to a core from a listed member of this number
+abbrev pub CarriesTo : Core → ℕ → Body → List ℕ → Type 0
+CarriesTo core from body bytes = (f : RawFrame) × (f.from ≡ from) × Carries core.node.keys core.node.list.members bytes f body
+
 abbrev pub put_acted : CoreEvent → Fate → Option Place → List Place → List Place
 put_acted e fate None places = places
-put_acted e fate (Some p) places = put (place_after p e fate) places
+put_acted e fate (Some p) places = put_place (place_after p e fate) places
 
 -- the places after an event at the node of a number
 abbrev pub acted_at : ℕ → CoreEvent → Fate → List Place → List Place
@@ -141,16 +147,16 @@ AnswersAt i e fate places answer = Answers e fate (place_at i places) answer
 
 -- a place that was drained for the other numbers
 abbrev pub place_drained : List ℕ → Place → Place
-place_drained numbers p = record { core = after_events p.core (draining numbers p.core); disk = p.disk }
+place_drained numbers p = record { core = after_events p.core (drains_of numbers p.core); disk = p.disk }
 
 abbrev pub put_drained : List ℕ → Option Place → List Place → List Place
 put_drained numbers None places = places
-put_drained numbers (Some p) places = put (place_drained numbers p) places
+put_drained numbers (Some p) places = put_place (place_drained numbers p) places
 
 -- and what it gave
 abbrev pub given_at : List ℕ → Option Place → List Sent
 given_at numbers None = []
-given_at numbers (Some p) = given_by p.core (draining numbers p.core)
+given_at numbers (Some p) = given_by p.core (drains_of numbers p.core)
 
 -- what is told of what a node says and reports
 abbrev pub outcomes_told : ℕ → NodeAnswer → List Outcome
@@ -168,8 +174,8 @@ list_noted relisted None = None
 list_noted relisted (Some p) = if relisted then Some (list_now p.core.node) else None
 
 -- a world in which an answer was noted, and the core that answered was drained
-abbrev pub noted : World → ℕ → NodeAnswer → World
-noted w i a = record w {
+abbrev pub after_note : World → ℕ → NodeAnswer → World
+after_note w i a = record w {
   places = put_drained w.numbers (place_at i w.places) w.places;
   sent = w.sent ++ given_at w.numbers (place_at i w.places);
   said = with_said w.said a.said;
@@ -197,7 +203,7 @@ place_again p now disk = record { core = core_again p now disk.in_force; disk = 
 -- the places with the node of a number opened again
 abbrev pub put_again : ℕ → Disk → Option Place → List Place → List Place
 put_again now disk None places = places
-put_again now disk (Some p) places = put (place_again p now disk) places
+put_again now disk (Some p) places = put_place (place_again p now disk) places
 
 -- the disk of the node of a number
 abbrev pub disk_in : ℕ → List Place → Option Disk

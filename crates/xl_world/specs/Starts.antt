@@ -1,17 +1,17 @@
 -- The network of a plan at its start, and what comes of it. Source: this project's schedule language.
 use Rattle.std.specs.Prelude.{◌≡◌, ℕ, false, List, [], filter, map}
 use Rattle.xl_core.specs.Core.{with_queues}
-use Rattle.xl_core.specs.Node.{opened}
+use Rattle.xl_core.specs.Node.{opened_node}
 use Rattle.xl_world.specs.declared.place.Place.{Place}
 use Rattle.xl_world.specs.declared.plan.InForce.{InForce}
 use Rattle.xl_world.specs.declared.plan.PlanNode.{PlanNode}
 use Rattle.xl_world.specs.Disk.{resting}
-use Rattle.xl_world.specs.Plans.{AreDeclared, Shared, all_numbers, is_declared, planned}
+use Rattle.xl_world.specs.Plans.{AreDeclared, Shared, all_numbers, is_declared, planned_settings}
 use Rattle.xl_world.specs.World.{World, Step, AreFit, run}
 
 -- a core at its start, and its disk
 abbrev pub start_of : Shared → PlanNode → Place
-start_of shared d = record { core = with_queues (opened (planned shared d) d.moment 0); disk = resting 0 }
+start_of shared d = record { core = with_queues (opened_node (planned_settings shared d) d.moment 0); disk = resting 0 }
 
 -- the list with which a node is declared
 abbrev pub list_of : PlanNode → InForce

@@ -17,9 +17,9 @@ use Rattle.xl_core.specs.declared.event.CoreEvent.{CoreEvent}
 use Rattle.xl_core.specs.declared.event.CoreEvent.TheVariants.{Issue, Frame, Timer, Submit, Relist}
 use Rattle.xl_core.specs.declared.report.Report.{Report}
 use Rattle.xl_core.specs.Answers.{Answer, Refused, Done, Gave}
-use Rattle.xl_core.specs.Core.{Core, CoreReply, answering, core_happens, core_asks, node_event, with_queues}
+use Rattle.xl_core.specs.Core.{Core, CoreReply, core_reply, core_happens, core_asks, node_event, with_queues}
 use Rattle.xl_core.specs.Lives.{IsFitEvent as IsFitForNode}
-use Rattle.xl_core.specs.Node.{Node, opened, settings_of}
+use Rattle.xl_core.specs.Node.{Node, opened_node, settings_of}
 use Rattle.xl_world.specs.Sending.{Sent}
 use Rattle.xl_world.specs.declared.plan.InForce.{InForce}
 use Rattle.xl_world.specs.declared.place.Disk.{Disk}
@@ -80,9 +80,9 @@ abbrev pub place_at : ℕ → List Place → Option Place
 place_at i places = find (λ p. p.core.node.me == i) places
 
 -- the places with this one in place of the one of its number
-abbrev pub put : Place → List Place → List Place
-put p [] = []
-put p (x ∷ xs) = if x.core.node.me == p.core.node.me then p ∷ xs else x ∷ put p xs
+abbrev pub put_place : Place → List Place → List Place
+put_place p [] = []
+put_place p (x ∷ xs) = if x.core.node.me == p.core.node.me then p ∷ xs else x ∷ put_place p xs
 
 -- the frames that an answer gives, from this number
 abbrev pub sent_in : ℕ → Answer → List Sent
@@ -105,9 +105,9 @@ set_by i (Relist now list) a = list_set i list a
 set_by i other a = None
 
 -- the world after what came of an event at a node, and the list that it set, with its disk then
-abbrev pub settled : World → ℕ → Bool → Option InForce → CoreReply → Disk → World
-settled w i forged set r disk = record w {
-  places = put (record { core = r.core; disk = disk }) w.places;
+abbrev pub settled_world : World → ℕ → Bool → Option InForce → CoreReply → Disk → World
+settled_world w i forged set r disk = record w {
+  places = put_place (record { core = r.core; disk = disk }) w.places;
   sent = w.sent ++ sent_in r.core.node.me r.answer;
   said = with_said w.said (option_map (said_by i) r.issued);
   reports = w.reports ++ option_to_list (option_map (reported_by r.core.node) r.report);
@@ -127,25 +127,25 @@ abbrev pub acts : World → ℕ → CoreEvent → Fate → Option Place → Worl
 acts w i event fate None = w
 acts w i event fate (Some p) =
     let r = reply_at p event fate in
-    settled w i (is_forged w p.core.node event) (set_by p.core.node.me event r.answer) r (disk_after p event fate)
+    settled_world w i (is_forged w p.core.node event) (set_by p.core.node.me event r.answer) r (disk_after p event fate)
 
 -- the core of a place opened again with this number
 abbrev pub core_again : Place → ℕ → ℕ → Core
-core_again p now number = with_queues (opened (settings_of p.core.node) now number)
+core_again p now number = with_queues (opened_node (settings_of p.core.node) now number)
 
 -- its disk then holds that number alone; a core that is opened says and reports nothing
-abbrev pub reopened : World → ℕ → Place → ℕ → ℕ → World
-reopened w i p now number = settled w i false None (answering (core_again p now number) Done) (restored p.disk number)
+abbrev pub reopened_world : World → ℕ → Place → ℕ → ℕ → World
+reopened_world w i p now number = settled_world w i false None (core_reply (core_again p now number) Done) (restored p.disk number)
 
 abbrev pub again : World → ℕ → ℕ → ℕ → Option Place → World
 again w i now number None = w
-again w i now number (Some p) = if may_hold (held_by p.disk) number then reopened w i p now number else w
+again w i now number (Some p) = if may_hold (held_by p.disk) number then reopened_world w i p now number else w
 
 -- only an event that asks a save can be torn
-abbrev pub torn : World → ℕ → ℕ → ℕ → Option Place → Option ℕ → World
-torn w i now number None asked = w
-torn w i now number (Some p) None = w
-torn w i now number (Some p) (Some s) =
+abbrev pub torn_world : World → ℕ → ℕ → ℕ → Option Place → Option ℕ → World
+torn_world w i now number None asked = w
+torn_world w i now number (Some p) None = w
+torn_world w i now number (Some p) (Some s) =
     again w i now number (Some (record { core = p.core; disk = record p.disk { asked = Some s } }))
 
 -- the moment of an event that has one
@@ -162,15 +162,15 @@ asked_at None event = None
 asked_at (Some p) event = core_asks p.core event
 
 -- all that was sent stands before the mark
-abbrev pub marked : World → World
-marked w = record w { mark = length w.sent }
+abbrev pub marked_world : World → World
+marked_world w = record w { mark = length w.sent }
 
 abbrev pub step : World → Step → World
 step w (Act i event fate) = acts w i event fate (place_at i w.places)
 step w (Again i now number) = again w i now number (place_at i w.places)
 step w (Torn i event number) =
-    torn w i (moment_in event) number (place_at i w.places) (asked_at (place_at i w.places) event)
-step w Mark = marked w
+    torn_world w i (moment_in event) number (place_at i w.places) (asked_at (place_at i w.places) event)
+step w Mark = marked_world w
 
 abbrev pub run : World → List Step → World
 run w [] = w

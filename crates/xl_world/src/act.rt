@@ -95,7 +95,7 @@ fn is_relisted(deed: &Deed<'_>, answer: &CoreAnswer) -> bool
 }
 
 /// Takes the report that waits to be taken, if there is one.
-fn take_report(core: &mut NodeCore, report: &mut Option<Report>)
+pub fn take_report(core: &mut NodeCore, report: &mut Option<Report>)
     requires few { length core.old.untaken.items ≤ 1 }
     requires fresh { report.old ≡ None }
     ensures core { core.new ≡ handed_out core.old }

@@ -1,28 +1,32 @@
 // What waits at a core is drained and sent.
-ghost use Rattle.std.specs.Prelude.{◌≡◌, ◌≢◌, ◌<◌, ◌≤◌, ℕ, List, [], None, length, take, map, OnOk, IfSome};
+ghost use Rattle.std.specs.Prelude.{◌≡◌, ◌≢◌, ◌<◌, ◌≤◌, ◌∷◌, ℕ, List, [], None, length, take, map, OnErr, OnOk, IfOk, IfSome, IsTrue};
 ghost use Rattle.xl_core.specs.Answers.{given_in};
 ghost use Rattle.xl_wire.specs.Heads.{split_of};
 ghost use Rattle.xl_wire.specs.Heads.Split.{Whole};
 ghost use Rattle.xl_wire.specs.Raws.{RawFrame};
 ghost use Rattle.xl_wire.specs.Lengths.{longest_frame};
-ghost use Rattle.xl_core.specs.Queues.{joined};
-ghost use Rattle.xl_core.specs.Sending.{blanked};
+ghost use Rattle.xl_core.specs.Queues.{stream_of};
+ghost use Rattle.xl_core.specs.Greetings.{greeting_at};
+ghost use Rattle.xl_core.specs.Sending.{without_tag, has_spelling};
 ghost use Rattle.xl_tags.specs.Rings.{schedule_ring};
 ghost use Rattle.xl_world.specs.declared.place.Place.{Place};
 ghost use Rattle.xl_world.specs.World.{place_at};
-ghost use Rattle.xl_world.specs.Emptying.{after_events, draining, drained_once, drains_for, given_by};
+ghost use Rattle.xl_world.specs.Emptying.{after_events, drains_of, drained_once, drains_for, given_by};
 ghost use Rattle.xl_world.specs.Ends.{IsLonger};
 ghost use Rattle.xl_world.specs.Indexes.{with_frames};
 ghost use Rattle.xl_world.specs.Rested.{Between, IsRested};
 ghost use Rattle.xl_world.specs.Seen.{AreFrames, IsFirstFrame, given_at, put_drained};
-ghost use Rattle.xl_world.specs.Sending.{sent_as};
+ghost use Rattle.xl_world.specs.Itemwise.{Sends};
+ghost use Rattle.xl_world.specs.Sending.{said_to, sent_as};
 
 use crate::act::position_of;
+use crate::lie::put_blank;
 use crate::members::Members;
 use crate::place::{NodeCore, Place};
+use crate::said::Said;
 use crate::traffic::Traffic;
 use xl_base::{NodeNo, OutOfMemory};
-use xl_wire::LONGEST_FRAME;
+use xl_wire::{Body, LONGEST_FRAME};
 
 /// How many bytes a frame has besides its body.
 const AROUND: usize = 46;
@@ -52,7 +56,7 @@ fn send_each(
     traffic: &mut Traffic,
 ) -> Result<(), OutOfMemory>
     requires short { length frames.now ≤ longest_frame }
-    ensures sent { (each : List (List ℕ)) → AreFrames each → frames.now ≡ joined each →
+    ensures sent { (each : List (List ℕ)) → AreFrames each → frames.now ≡ stream_of each →
         OnOk result (traffic.new ≡ with_frames traffic.old (map (sent_as from to) each)) }
     ensures longer { IsLonger traffic.old.frames traffic.new.frames }
 {
@@ -72,7 +76,7 @@ fn drain_once(core: &mut NodeCore, to: NodeNo, room: &mut [u8; LONGEST_FRAME]) -
     ensures none { result ≡ None → given_in (drained_once core.old to).answer ≡ [] }
     ensures some { IfSome result (λ count.
         (0 < count) × (count ≤ longest_frame)
-        × (take count room.new ≡ joined (map blanked (given_in (drained_once core.old to).answer)))) }
+        × (take count room.new ≡ stream_of (map without_tag (given_in (drained_once core.old to).answer)))) }
 {
     if core.is_idle(to) {
         return None;
@@ -81,8 +85,9 @@ fn drain_once(core: &mut NodeCore, to: NodeNo, room: &mut [u8; LONGEST_FRAME]) -
     if count == 0 { None } else { Some(count) }
 }
 
-/// What waits for another number is drained and sent, until a drain gives nothing.
-fn drain_for(
+/// What waits for another number, which was greeted, is drained and sent, until a drain gives nothing.
+#[inline(never)]
+fn drain_greeted(
     core: &mut NodeCore,
     to: NodeNo,
     room: &mut [u8; LONGEST_FRAME],
@@ -103,6 +108,99 @@ fn drain_for(
     Ok(())
 }
 
+/// The frame of a body is sent.
+fn send_body(
+    from: NodeNo,
+    to: NodeNo,
+    body: Body<'_>,
+    room: &mut [u8; LONGEST_FRAME],
+    traffic: &mut Traffic,
+) -> Result<(), OutOfMemory>
+    ensures sent { OnOk result (traffic.new ≡ with_frames traffic.old (said_to from to body.entry ∷ [])) }
+    ensures spelled { IsTrue (has_spelling from to body.entry) }
+    ensures err { OnErr result (traffic.new ≡ traffic.old) }
+{
+    match Said::of(&body) {
+        Some(said) => traffic.push_said(from, to, &said),
+        None => {
+            let length = put_blank(from, to, body, &mut *room);
+            traffic.push(from, to, &room[..length])
+        }
+    }
+}
+
+/// The oldest item that waits for another number is taken out, and sent unless it is passed over. Answers whether there
+/// was one.
+fn send_first(
+    core: &mut NodeCore,
+    to: NodeNo,
+    room: &mut [u8; LONGEST_FRAME],
+    traffic: &mut Traffic,
+) -> Result<bool, OutOfMemory>
+    requires keys { core.old.node.keys ≡ schedule_ring core.old.node.me }
+    ensures sends { IfOk result (λ more. Sends more core.old to traffic.old core.new traffic.new) }
+    ensures err { OnErr result (traffic.new ≡ traffic.old) }
+{
+    let from = core.node().me();
+    let Some(item) = core.first(to) else {
+        return Ok(false);
+    };
+    match core.node().body_in(item) {
+        Some(body) => {
+            send_body(from, to, body, room, traffic)?;
+            core.take_first(to);
+            Ok(true)
+        }
+        None => {
+            core.pass_over_first(to);
+            Ok(true)
+        }
+    }
+}
+
+/// What waits for another number, which wasn't greeted, is sent, item by item.
+fn send_waiting(
+    core: &mut NodeCore,
+    to: NodeNo,
+    room: &mut [u8; LONGEST_FRAME],
+    traffic: &mut Traffic,
+) -> Result<(), OutOfMemory>
+    requires plain { greeting_at core.old.greetings to ≡ None }
+    requires keys { core.old.node.keys ≡ schedule_ring core.old.node.me }
+    ensures core { OnOk result (core.new ≡ after_events core.old (drains_for core.old to)) }
+    ensures sent { OnOk result (traffic.new ≡ with_frames traffic.old (given_by core.old (drains_for core.old to))) }
+    ensures longer { IsLonger traffic.old.frames traffic.new.frames }
+{
+    // A member's number, for which there is a queue.
+    let _number = to.get();
+    let _first = core.first(to);
+    let mut more = true;
+    while more {
+        more = send_first(core, to, room, traffic)?;
+    }
+    Ok(())
+}
+
+/// What waits for another number is drained and sent, until a drain gives nothing.
+fn drain_for(
+    core: &mut NodeCore,
+    to: NodeNo,
+    room: &mut [u8; LONGEST_FRAME],
+    traffic: &mut Traffic,
+) -> Result<(), OutOfMemory>
+    requires other { to ≢ core.old.node.me }
+    requires keys { core.old.node.keys ≡ schedule_ring core.old.node.me }
+    ensures core { OnOk result (core.new ≡ after_events core.old (drains_for core.old to)) }
+    ensures sent { OnOk result (traffic.new ≡ with_frames traffic.old (given_by core.old (drains_for core.old to))) }
+    ensures longer { IsLonger traffic.old.frames traffic.new.frames }
+{
+    if core.was_greeted(to) {
+        drain_greeted(core, to, room, traffic)
+    } else {
+        send_waiting(core, to, room, traffic)
+    }
+}
+
 /// What waits for each other number is drained and sent, for each in its turn.
 // Mostly nothing waits, and in the caller's each event would clear places for this.
 #[inline(never)]
@@ -113,9 +211,9 @@ fn drain_each(
     traffic: &mut Traffic,
 ) -> Result<(), OutOfMemory>
     requires keys { core.old.node.keys ≡ schedule_ring core.old.node.me }
-    ensures core { OnOk result (core.new ≡ after_events core.old (draining numbers.now core.old)) }
+    ensures core { OnOk result (core.new ≡ after_events core.old (drains_of numbers.now core.old)) }
     ensures sent { OnOk result
-        (traffic.new ≡ with_frames traffic.old (given_by core.old (draining numbers.now core.old))) }
+        (traffic.new ≡ with_frames traffic.old (given_by core.old (drains_of numbers.now core.old))) }
     ensures longer { IsLonger traffic.old.frames traffic.new.frames }
 {
     for &to in numbers {
@@ -134,9 +232,9 @@ fn drain(
     traffic: &mut Traffic,
 ) -> Result<(), OutOfMemory>
     requires keys { core.old.node.keys ≡ schedule_ring core.old.node.me }
-    ensures core { OnOk result (core.new ≡ after_events core.old (draining numbers.now core.old)) }
+    ensures core { OnOk result (core.new ≡ after_events core.old (drains_of numbers.now core.old)) }
     ensures sent { OnOk result
-        (traffic.new ≡ with_frames traffic.old (given_by core.old (draining numbers.now core.old))) }
+        (traffic.new ≡ with_frames traffic.old (given_by core.old (drains_of numbers.now core.old))) }
     ensures longer { IsLonger traffic.old.frames traffic.new.frames }
 {
     if numbers.are_idle(core) {

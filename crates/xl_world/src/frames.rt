@@ -1,13 +1,15 @@
 // Every frame that was sent, with the bytes of all of them in one vector.
-ghost use Rattle.std.specs.Prelude.{◌≡◌, ◌≤◌, ◌<◌, ◌++◌, ◌∷◌, [], All, IfOk, IfSome, length, option_copied, slice_get, take, OnErr, OnOk};
+ghost use Rattle.std.specs.Prelude.{◌≡◌, ◌≤◌, ◌<◌, ◌++◌, ◌∷◌, ℕ, [], Some, IfOk, IfSome, length, option_copied, slice_get, take, OnErr, OnOk};
 ghost use Rattle.xl_wire.specs.Lengths.{longest_frame};
 ghost use Rattle.xl_world.specs.Ends.{IsLonger};
 ghost use Rattle.xl_world.specs.Forgeries.{was_sent};
 ghost use Rattle.xl_world.specs.Indexes.{is_at};
-ghost use Rattle.xl_world.specs.Sending.{address_in, sent_as};
-ghost use Rattle.xl_world.specs.Worlds.{IsKeptAt, IsWithin};
+ghost use Rattle.xl_world.specs.Sending.{address_in, body_said, said_to, sent_as};
+ghost use Rattle.xl_world.specs.declared.frames.SentPlace.TheVariants.{Bytes as BytesThere, Said as SaidThere};
+ghost use Rattle.xl_world.specs.Worlds.{IsKeptAt, IsPlace, IsWithin, frame_of_place};
 
 use crate::Sent;
+use crate::said::Said;
 use crate::sent::{ADDRESS, is_same_to_others};
 use std::alloc::Global;
 use std::marker::Model;
@@ -15,7 +17,7 @@ use xl_base::{NodeNo, OutOfMemory};
 
 /// Where what is kept of a frame stands among the bytes of all, and who sent it to whom.
 #[derive(Clone, Copy)]
-pub struct SentPlace {
+pub struct KeptBytes {
     begins: usize,
     length: u32,
     from: NodeNo,
@@ -24,15 +26,40 @@ pub struct SentPlace {
     address: u8,
 }
 
+/// Where what a frame says stands among all that is said, and who sent it to whom.
+#[derive(Clone, Copy)]
+pub struct KeptSpeech {
+    place: usize,
+    from: NodeNo,
+    to: NodeNo,
+}
+
+/// What is kept of a frame.
+#[derive(Clone, Copy)]
+pub enum SentPlace {
+    Bytes(KeptBytes),
+    Said(KeptSpeech),
+}
+
+impl SentPlace {
+    fn is_between(&self, from: NodeNo, to: NodeNo) -> bool {
+        match self {
+            SentPlace::Bytes(kept) => kept.from == from && kept.to == to,
+            SentPlace::Said(kept) => kept.from == from && kept.to == to,
+        }
+    }
+}
+
 /// The frames that were sent, in order, which contracts see as a list.
 ///
 /// What a node says to several receivers is kept once. A drain goes receiver by receiver, so each frame is looked for
-/// among those to the receiver before, in their order.
+/// among those to the receiver before, in their order. Of most frames what they say is kept, and no bytes.
 #[derive(Drop)]
 pub struct SentFrames {
     places: Vec<SentPlace>,
-    /// What is kept of each, one behind the other.
+    /// What is kept of each whose bytes are, one behind the other.
     bytes: Vec<u8>,
+    said: Vec<Said>,
     cursor: Cursor,
 }
 
@@ -77,6 +104,7 @@ impl SentFrames {
         SentFrames {
             places: Vec::new(alloc),
             bytes: Vec::new(alloc),
+            said: Vec::new(alloc),
             cursor: Cursor { turn: 0, likely: 0 },
         }
     }
@@ -92,11 +120,7 @@ impl SentFrames {
         ensures { result ≡ slice_get self.now place }
     {
         match place_at(&self.places, place) {
-            Some(kept) => {
-                let ends = kept.begins + kept.length as usize;
-                let bytes = &self.bytes[kept.begins..ends];
-                Some(Sent::new(kept.from, kept.to, bytes, kept.address))
-            }
+            Some(found) => Some(frame_of(&self.bytes, &self.said, found)),
             None => None,
         }
     }
@@ -109,14 +133,31 @@ impl SentFrames {
     {
         self.cursor.turn_to(&self.places, from, to);
         let begins = keep(&mut self.bytes, &self.places, &mut self.cursor.likely, kept)?;
-        let place = SentPlace {
+        let place = KeptBytes {
             begins,
             length: kept.len() as u32,
             from,
             to,
             address: address_of(kept),
         };
-        self.places.push(place)?;
+        self.places.push(SentPlace::Bytes(place))?;
+        Ok(())
+    }
+
+    /// A frame is sent that says this.
+    pub(crate) fn push_said(
+        &mut self,
+        from: NodeNo,
+        to: NodeNo,
+        said: &Said,
+    ) -> Result<(), OutOfMemory>
+        ensures sent { OnOk result (self.new ≡ self.old ++ said_to from to (body_said said.now) ∷ []) }
+        ensures err { OnErr result (self.new ≡ self.old) }
+    {
+        self.cursor.turn_to(&self.places, from, to);
+        let place = keep_said(&mut self.said, &self.places, &mut self.cursor.likely, said)?;
+        self.places
+            .push(SentPlace::Said(KeptSpeech { place, from, to }))?;
         Ok(())
     }
 
@@ -128,16 +169,88 @@ impl SentFrames {
     }
 }
 
+/// The frame of which this is kept.
+fn frame_of<'a>(bytes: &'a [u8], all: &'a [Said], place: &SentPlace) -> Sent<'a>
+    requires { IsPlace (length bytes.now) (length all.now) place.now }
+    ensures { result ≡ frame_of_place bytes.now all.now place.now }
+{
+    match place {
+        SentPlace::Bytes(kept) => {
+            let ends = kept.begins + kept.length as usize;
+            Sent::new(kept.from, kept.to, &bytes[kept.begins..ends], kept.address)
+        }
+        SentPlace::Said(kept) => Sent::saying(kept.from, kept.to, &all[kept.place]),
+    }
+}
+
 fn place_at(places: &[SentPlace], place: usize) -> Option<&SentPlace>
     ensures { option_copied result ≡ slice_get places.now place }
 {
     places.get(place)
 }
 
+/// Where the bytes of the frame of a place are kept, if they are.
+fn bytes_at(places: &[SentPlace], place: usize) -> Option<KeptBytes>
+    ensures { IfSome result (λ p. slice_get places.now place ≡ Some (BytesThere p)) }
+{
+    match place_at(places, place) {
+        Some(SentPlace::Bytes(kept)) => Some(*kept),
+        _ => None,
+    }
+}
+
+/// Where what the frame of a place says is kept, if its bytes aren't.
+fn said_at(places: &[SentPlace], place: usize) -> Option<KeptSpeech>
+    ensures { IfSome result (λ p. slice_get places.now place ≡ Some (SaidThere p)) }
+{
+    match place_at(places, place) {
+        Some(SentPlace::Said(kept)) => Some(*kept),
+        _ => None,
+    }
+}
+
+/// Where what a frame says is kept: where the likely frame says the same, and else behind all.
+fn keep_said(
+    all: &mut Vec<Said>,
+    places: &[SentPlace],
+    likely: &mut usize,
+    said: &Said,
+) -> Result<usize, OutOfMemory>
+    requires within { (k : ℕ) (p : KeptSpeech) → slice_get places.now k ≡ Some (SaidThere p)
+        → p.place < length all.old.items }
+    ensures longer { IsLonger all.old.items all.new.items }
+    ensures kept { IfOk result (λ place. slice_get all.new.items place ≡ Some said.now) }
+{
+    if let Some(place) = find_said(all, places, *likely, said) {
+        *likely += 1;
+        return Ok(place);
+    }
+    let place = all.len();
+    all.push(*said)?;
+    Ok(place)
+}
+
+/// Where what the frame of a place says is kept, if it says this.
+fn find_said(all: &[Said], places: &[SentPlace], place: usize, said: &Said) -> Option<usize>
+    requires within { (k : ℕ) (p : KeptSpeech) → slice_get places.now k ≡ Some (SaidThere p)
+        → p.place < length all.now }
+    ensures kept { IfSome result (λ at. slice_get all.now at ≡ Some said.now) }
+    ensures within { IfSome result (λ at. place < length places.now) }
+{
+    let Some(found) = said_at(places, place) else {
+        return None;
+    };
+    if all[found.place].is(said) {
+        Some(found.place)
+    } else {
+        None
+    }
+}
+
 /// Whether the last frame has this sender and this receiver.
 fn ends_with(places: &[SentPlace], from: NodeNo, to: NodeNo) -> bool {
     match places.last() {
-        Some(last) => last.from == from && last.to == to,
+        Some(last) => last.is_between(from, to),
         None => false,
     }
 }
@@ -160,7 +273,8 @@ fn keep(
     likely: &mut usize,
     kept: &[u8],
 ) -> Result<usize, OutOfMemory>
-    requires within { All (IsWithin (length bytes.old.items)) places.now }
+    requires within { (k : ℕ) (p : KeptBytes) → slice_get places.now k ≡ Some (BytesThere p)
+        → IsWithin (length bytes.old.items) p }
     ensures longer { IsLonger bytes.old.items bytes.new.items }
     ensures kept { IfOk result (λ begins. IsKeptAt bytes.new.items begins kept.now) }
 {
@@ -175,11 +289,12 @@ fn keep(
 
 /// Where the frame of a place is kept, if it is this one but for its address.
 fn find(bytes: &[u8], places: &[SentPlace], place: usize, kept: &[u8]) -> Option<usize>
-    requires within { All (IsWithin (length bytes.now)) places.now }
+    requires within { (k : ℕ) (p : KeptBytes) → slice_get places.now k ≡ Some (BytesThere p)
+        → IsWithin (length bytes.now) p }
     ensures kept { IfSome result (λ begins. IsKeptAt bytes.now begins kept.now) }
     ensures within { IfSome result (λ begins. place < length places.now) }
 {
-    let Some(found) = place_at(places, place) else {
+    let Some(found) = bytes_at(places, place) else {
         return None;
     };
     let ends = found.begins + found.length as usize;

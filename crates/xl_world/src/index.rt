@@ -7,6 +7,7 @@ use crate::Sent;
 use crate::frames::{SentFrames, is_at, was_sent};
 use std::alloc::Global;
 use std::collections::BTreeMap;
+use xl_wire::LONGEST_FRAME;
 
 /// Where sent frames stand by their tags: the first of each tag.
 ///
@@ -41,15 +42,15 @@ impl TagIndex {
         self.given_up = true;
     }
 
-    /// Whether these bytes were sent.
-    pub fn has(&mut self, sent: &SentFrames, bytes: &[u8]) -> bool
+    /// Whether these bytes were sent. The room is written over.
+    pub fn has(&mut self, sent: &SentFrames, bytes: &[u8], room: &mut [u8; LONGEST_FRAME]) -> bool
         requires { IsIndex self.old sent.now }
         ensures value { result ≡ was_sent sent.now bytes.now }
         ensures index { IsIndex self.new sent.now }
         // No frame is indexed twice.
         ensures later { self.old.indexed ≤ self.new.indexed }
     {
-        self.extend(sent);
+        self.extend(sent, room);
         match tag_of(bytes) {
             Some(tag) if !self.given_up => self.finds(sent, bytes, &tag),
             _ => was_sent(sent, bytes),
@@ -71,19 +72,19 @@ impl TagIndex {
     }
 
     /// Adds the frames that it hasn't, unless it is given up.
-    fn extend(&mut self, sent: &SentFrames)
+    fn extend(&mut self, sent: &SentFrames, room: &mut [u8; LONGEST_FRAME])
         requires { IsIndex self.old sent.now }
         ensures index { IsIndex self.new sent.now }
         ensures all { self.new.given_up ≡ false → self.new.indexed ≡ length sent.now }
         ensures later { self.old.indexed ≤ self.new.indexed }
     {
         while !self.given_up && self.indexed < sent.len() {
-            self.add(sent);
+            self.add(sent, room);
         }
     }
 
     /// Adds the next frame, or gives the index up.
-    fn add(&mut self, sent: &SentFrames)
+    fn add(&mut self, sent: &SentFrames, room: &mut [u8; LONGEST_FRAME])
         requires index { IsIndex self.old sent.now }
         requires more { self.old.indexed < length sent.now }
         requires kept { self.old.given_up ≡ false }
@@ -99,7 +100,7 @@ impl TagIndex {
             self.given_up = true;
             return;
         };
-        let Some(tag) = frame.tag() else {
+        let Some(tag) = frame.tag(room) else {
             self.given_up = true;
             return;
         };

@@ -61,7 +61,7 @@ impl Network {
     ghost use Rattle.xl_world.specs.Ends.{Grows, cut_back, extent_of};
     ghost use Rattle.xl_world.specs.Rested.{IsAtRest, IsRested};
     ghost use Rattle.xl_world.specs.Schedule.{IsPlausible, ask_steps, greet_steps, outcomes_at, steps_at, timers, told_in};
-    ghost use Rattle.xl_world.specs.Seen.{MayDo, deed_event, noted, outcomes_told, with_forged};
+    ghost use Rattle.xl_world.specs.Seen.{MayDo, deed_event, after_note, outcomes_told, with_forged};
     ghost use Rattle.xl_world.specs.declared.place.Fate.TheVariants.{Saved};
 
     /// The network of a plan, at its start.
@@ -96,7 +96,7 @@ impl Network {
         told: &mut Vec<Outcome>,
     ) -> Result<(), OutOfMemory>
         requires rested { (p : _) → place_at i self.old.places ≡ Some p → IsRested p.core }
-        ensures world { OnOk result (self.new ≡ noted self.old i answer.now) }
+        ensures world { OnOk result (self.new ≡ after_note self.old i answer.now) }
         ensures told { OnOk result (told.new.items ≡ told.old.items ++ outcomes_told i answer.now) }
         ensures grows { Grows self.old self.new }
     {

@@ -6,8 +6,11 @@ ghost use Rattle.xl_tags.specs.Rings.{schedule_ring};
 ghost use Rattle.xl_tags.specs.Sealing.{before_tag};
 ghost use Rattle.xl_wire.specs.Lengths.{longest_frame};
 ghost use Rattle.xl_world.specs.Indexes.{tag_in};
-ghost use Rattle.xl_world.specs.Sending.{IsTag, addressed, sent_as};
+ghost use Rattle.xl_world.specs.Sending.{IsTag, with_address, body_said, said_to, sent_as};
+ghost use Rattle.xl_world.specs.Worlds.{kept_seen};
 
+use crate::lie::put_blank;
+use crate::said::Said;
 use std::alloc::Global;
 use std::marker::Model;
 use xl_base::{Bytes, NodeNo, OutOfMemory, put};
@@ -25,10 +28,19 @@ pub(crate) const ADDRESS: usize = 13;
 pub struct Sent<'a> {
     from: NodeNo,
     to: NodeNo,
-    /// The frame with any tag, and any byte at `ADDRESS`.
-    kept: &'a [u8],
-    /// The byte there.
-    address: u8,
+    kept: KeptFrame<'a>,
+}
+
+/// What is kept of a frame.
+#[derive(Clone, Copy)]
+pub enum KeptFrame<'a> {
+    Bytes {
+        /// The frame with any tag, and any byte at `ADDRESS`.
+        kept: &'a [u8],
+        /// The byte there.
+        address: u8,
+    },
+    Said(&'a Said),
 }
 
 impl<'a> Model for Sent<'a> {
@@ -47,13 +59,33 @@ impl<'a> Sent<'a> {
     /// A sent frame, of which these bytes are kept but for this one.
     pub(crate) fn new(from: NodeNo, to: NodeNo, kept: &'a [u8], address: u8) -> Sent<'a>
         requires short { length kept.now ≤ longest_frame }
-        ensures { result ≡ sent_as from to (addressed address kept.now) }
+        ensures { result ≡ sent_as from to (with_address address kept.now) }
     {
         Sent {
             from,
             to,
-            kept,
-            address,
+            kept: KeptFrame::Bytes { kept, address },
+        }
+    }
+
+    /// A sent frame that says this.
+    pub(crate) fn saying(from: NodeNo, to: NodeNo, said: &'a Said) -> Sent<'a>
+        ensures { result ≡ said_to from to (body_said said.now) }
+    {
+        Sent {
+            from,
+            to,
+            kept: KeptFrame::Said(said),
+        }
+    }
+
+    /// What it says, if that is kept in place of bytes.
+    pub(crate) fn said(&self) -> Option<&'a Said>
+        ensures { IfSome result (λ said. self.now ≡ said_to self.now.from self.now.to (body_said said.now)) }
+    {
+        match self.kept {
+            KeptFrame::Said(said) => Some(said),
+            KeptFrame::Bytes { .. } => None,
         }
     }
 
@@ -76,17 +108,17 @@ impl<'a> Sent<'a> {
         ensures within { result ≤ longest_frame }
         ensures kept { self.now ≡ sent_as self.now.from self.now.to (take result room.new) }
     {
-        put(room, 0, self.kept);
-        room[ADDRESS] = self.address;
-        self.kept.len()
+        match self.kept {
+            KeptFrame::Bytes { kept, address } => put_kept(kept, address, room),
+            KeptFrame::Said(said) => put_blank(self.from, self.to, said.body(), &mut *room),
+        }
     }
 
-    /// Its tag, if it is a frame.
-    pub(crate) fn tag(&self) -> Option<[u8; 32]>
+    /// Its tag, if it is a frame. The room is written over.
+    pub(crate) fn tag(&self, room: &mut [u8; LONGEST_FRAME]) -> Option<[u8; 32]>
         ensures { IfSome result (λ tag. tag ≡ tag_in self.now.bytes) }
     {
-        let mut room = [0; LONGEST_FRAME];
-        let length = self.put(&mut room);
+        let length = self.put(&mut *room);
         tag_for(self.to, &room[..length])
     }
 
@@ -94,10 +126,10 @@ impl<'a> Sent<'a> {
     pub(crate) fn is_again(&self, other: &Sent<'_>) -> bool
         ensures { IsTrue result → self.now.bytes ≡ other.now.bytes }
     {
-        if self.to != other.to {
+        if self.from != other.from || self.to != other.to {
             return false;
         }
-        self.address == other.address && is_same_to_others(self.kept, other.kept)
+        is_kept_again(&self.kept, &other.kept)
     }
 
     /// Whether these are its bytes.
@@ -119,9 +151,37 @@ impl<'a> Sent<'a> {
     }
 }
 
+/// Writes what is kept of a frame, with its byte at `ADDRESS`, to the front of a room. Answers how many bytes it has.
+fn put_kept(kept: &[u8], address: u8, room: &mut [u8; LONGEST_FRAME]) -> usize
+    requires short { length kept.now ≤ longest_frame }
+    ensures within { result ≤ longest_frame }
+    ensures written { take result room.new ≡ with_address address kept.now }
+{
+    put(room, 0, kept);
+    room[ADDRESS] = address;
+    kept.len()
+}
+
+/// Whether what is kept of two frames between the same two is the same.
+fn is_kept_again(one: &KeptFrame<'_>, other: &KeptFrame<'_>) -> bool
+    ensures { IsTrue result → (from to : ℕ) → kept_seen from to one.now ≡ kept_seen from to other.now }
+{
+    match (one, other) {
+        (
+            KeptFrame::Bytes {
+                kept: first,
+                address: own,
+            },
+            KeptFrame::Bytes { kept, address },
+        ) => own == address && is_same_to_others(first, kept),
+        (KeptFrame::Said(first), KeptFrame::Said(said)) => first.is(said),
+        _ => false,
+    }
+}
+
 /// Whether two frames differ by their byte at `ADDRESS` at most. What is too short for one is no frame.
 pub(crate) fn is_same_to_others(one: &[u8], other: &[u8]) -> bool
-    ensures { IsTrue result → (address : ℕ) → addressed address one.now ≡ addressed address other.now }
+    ensures { IsTrue result → (address : ℕ) → with_address address one.now ≡ with_address address other.now }
 {
     if one.len() != other.len() || one.len() <= ADDRESS {
         return false;

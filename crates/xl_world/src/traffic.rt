@@ -3,14 +3,16 @@ ghost use Rattle.std.specs.Prelude.{◌≡◌, ◌≤◌, [], length, slice_get,
 ghost use Rattle.xl_wire.specs.Lengths.{longest_frame};
 ghost use Rattle.xl_world.specs.Indexes.{Traffic as TheTraffic, with_frame};
 ghost use Rattle.xl_world.specs.Forgeries.{was_sent};
-ghost use Rattle.xl_world.specs.Sending.{sent_as};
+ghost use Rattle.xl_world.specs.Sending.{body_said, said_to, sent_as};
 
 use crate::Sent;
 use crate::frames::SentFrames;
 use crate::index::TagIndex;
+use crate::said::Said;
 use std::alloc::Global;
 use std::marker::Model;
 use xl_base::{NodeNo, OutOfMemory};
+use xl_wire::LONGEST_FRAME;
 
 /// The sent frames in order, the mark, and the index of the frames by their tags.
 #[derive(Drop)]
@@ -77,6 +79,15 @@ impl Traffic {
         Ok(())
     }
 
+    /// A frame is sent that says this.
+    pub fn push_said(&mut self, from: NodeNo, to: NodeNo, said: &Said) -> Result<(), OutOfMemory>
+        ensures sent { OnOk result (self.new ≡ with_frame self.old (said_to from to (body_said said.now))) }
+        ensures err { OnErr result (self.new ≡ self.old) }
+    {
+        self.frames.push_said(from, to, said)?;
+        Ok(())
+    }
+
     /// No more frames are kept than so many of the first, and the mark is this one. The index is given up, since it may
     /// hold later frames.
     pub fn cut_back(&mut self, count: usize, mark: usize)
@@ -98,11 +109,11 @@ impl Traffic {
         self.mark = self.frames.len();
     }
 
-    /// Whether these bytes were sent.
-    pub fn has(&mut self, bytes: &[u8]) -> bool
+    /// Whether these bytes were sent. The room is written over.
+    pub fn has(&mut self, bytes: &[u8], room: &mut [u8; LONGEST_FRAME]) -> bool
         ensures value { result ≡ was_sent self.old.frames bytes.now }
         ensures same { self.new ≡ self.old }
     {
-        self.index.has(&self.frames, bytes)
+        self.index.has(&self.frames, bytes, room)
     }
 }

@@ -46,7 +46,7 @@ impl World {
     ghost use Rattle.xl_world.specs.Schedule.{IsPlausible, after_event, outcomes};
     ghost use Rattle.xl_world.specs.Starts.{IsRun, start};
     ghost use Rattle.xl_world.specs.World.{core_in, list_in, run};
-    ghost use Rattle.xl_world.specs.Ends.{IsLeft, ended};
+    ghost use Rattle.xl_world.specs.Ends.{IsLeft, spent_world};
 
     /// The world of a plan, at its start.
     // Its frame is large, and in the caller's each event would pay for it.
@@ -74,7 +74,7 @@ impl World {
         requires plausible { IsPlausible event.now.what }
         ensures world { OnOk result (self.new ≡ after_event self.old event.now) }
         ensures told { IfOk result (λ told. told ≡ outcomes self.old event.now) }
-        ensures err { OnErr result (self.new ≡ ended self.old) }
+        ensures err { OnErr result (self.new ≡ spent_world self.old) }
         ensures spent { self.old.spent ≡ true → IsErr result }
     {
         if self.spent {

@@ -69,6 +69,24 @@ impl<B: Branch + Drop> Node<B> {
         }
     }
 
+    /// Hears the body of a listed member's frame as if the frame had come.
+    #[inline(never)]
+    pub(crate) fn hear_body(
+        &mut self,
+        now: Millis,
+        from: NodeNo,
+        body: &Body<'_>,
+        heard: &mut Result<Heard, Refusal>,
+    )
+        requires moment { now ≤ greatest_millis }
+        requires listed { IsTrue (is_on self.old.list.members from) }
+        ensures exact { hear_reply heard.new self.new ≡ speech_reply (at_moment now self.old) from (speech_of body.now) }
+        ensures unchanged { OnErr heard.new (self.new ≡ at_moment now self.old) }
+    {
+        self.advance(now);
+        self.take_body(from, body, heard);
+    }
+
     /// Hears the frame with which the bytes begin.
     fn hear_frame(
         &mut self,

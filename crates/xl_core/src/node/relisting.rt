@@ -3,7 +3,7 @@ ghost use Rattle.std.specs.Result.{result_err};
 ghost use Rattle.xl_base.specs.Moments.{greatest_millis};
 ghost use Rattle.xl_tags.specs.Opening.{HasKeys};
 ghost use Rattle.xl_core.specs.Answers.{Done};
-ghost use Rattle.xl_core.specs.Node.{Relist, arisen_in, at_moment, happens, key_refusal, reporting, with_list};
+ghost use Rattle.xl_core.specs.Node.{Relist, arisen_in, at_moment, happens, key_refusal, reporting_reply, with_list};
 ghost use Rattle.xl_core.specs.Issuing.Save.{Kept};
 ghost use Rattle.xl_core.specs.Replies.{list_reply};
 
@@ -54,7 +54,7 @@ impl<B: Branch + Drop> Node<B> {
     /// Sets the list, once the time is set and each listed member has a key.
     fn set_list(&mut self, list: List) -> Option<Report>
         requires keyed { HasKeys self.old.keys list.members }
-        ensures { list_reply (Ok result) self.new ≡ reporting (with_list self.old list) Done None }
+        ensures { list_reply (Ok result) self.new ≡ reporting_reply (with_list self.old list) Done None }
     {
         // Each list is valid.
         let _members = list.members();

@@ -34,7 +34,7 @@ impl<B: Branch + Drop> Node<B> {
     }
 
     /// The body in which it says an item. None for a set that is no longer its own.
-    fn body_in(&self, item: &Item) -> Option<Body<'_>>
+    pub fn body_in(&self, item: &Item) -> Option<Body<'_>>
         ensures { result ≡ body_in_of self.now item.now }
     {
         match *item {

@@ -4,16 +4,16 @@ ghost use Rattle.xl_ledger.specs.Headers.{header_id};
 ghost use Rattle.xl_ledger.specs.Registries.{add_refusal, with_header};
 ghost use Rattle.xl_base.specs.Refusals.{unless_refused};
 ghost use Rattle.xl_rounds.specs.Heartbeats.{heartbeat, is_ready};
-ghost use Rattle.xl_core.specs.Building.{knowing, alone as alone_of};
+ghost use Rattle.xl_core.specs.Building.{knowing_of, alone as alone_of};
 ghost use Rattle.xl_core.specs.Keeping.{CountsFault, IsAsked};
 ghost use Rattle.xl_core.specs.Node.{
   at_moment,
   timer_outcome,
   chosen,
   switch_outcome,
-  seen as seen_of,
+  seen_of,
   heartbeat_outcome,
-  built as built_of,
+  next_header as built_of,
   built_outcome,
 };
 ghost use Rattle.xl_core.specs.Replies.{save_in, was_kept};
@@ -166,7 +166,7 @@ impl<B: Branch + Drop> Node<B> {
     fn build(&mut self, said: &Option<Said>, moved_on: bool, part: &mut TimerPart)
         requires ready { IsSome self.old.round.ready }
         ensures exact { outcome_by part.new self.new ≡
-            built_outcome self.old said.now moved_on (knowing self.old.ledgers (built_of self.old)) }
+            built_outcome self.old said.now moved_on (knowing_of self.old.ledgers (built_of self.old)) }
         ensures part { IsTimerPart self.new part.new }
     {
         let header = self.next_header();
@@ -205,7 +205,7 @@ impl<B: Branch + Drop> Node<B> {
     fn know(&mut self, h: &Header, id: &LedgerId) -> Option<LedgerNo>
         requires built { h.now ≡ built_of self.old }
         requires id { id.now ≡ header_id h.now }
-        ensures none { result ≡ None → (knowing self.old.ledgers h.now ≡ None) × (self.new ≡ self.old) }
+        ensures none { result ≡ None → (knowing_of self.old.ledgers h.now ≡ None) × (self.new ≡ self.old) }
         ensures some { IfSome result (λ ledger. IsKnown self.old self.new h.now ledger) }
     {
         if let Some(ledger) = self.registry.find(id) {

@@ -3,7 +3,7 @@ ghost use Rattle.std.specs.Prelude.{◌≡◌, ◌↔◌, ◌≤◌, [], ℕ, Is
 ghost use Rattle.xl_io.specs.Keepers.{Held};
 ghost use Rattle.xl_tags.specs.Rings.{key_of};
 ghost use Rattle.xl_core.specs.Answers.{Gave};
-ghost use Rattle.xl_core.specs.Core.{all_frames, answering, is_idle, core_happens, Marks};
+ghost use Rattle.xl_core.specs.Core.{all_frames, core_reply, is_idle, core_happens, Marks};
 ghost use Rattle.xl_core.specs.Items.{lost_for};
 ghost use Rattle.xl_core.specs.Queues.{frames_in};
 ghost use Rattle.xl_core.specs.declared.event.CoreEvent.TheVariants.{Drain};
@@ -79,7 +79,7 @@ impl<B: Branch + Drop> Core<B> {
     pub fn is_idle(&self, member: NodeNo) -> bool
         ensures value { result ≡ is_idle self.now member }
         ensures idle { IsTrue result → (room : ℕ)
-            → core_happens self.now (Drain member room) Kept ≡ answering self.now (Gave member []) }
+            → core_happens self.now (Drain member room) Kept ≡ core_reply self.now (Gave member []) }
     {
         !is_marked(self.marks, member)
     }

@@ -3,7 +3,7 @@ ghost use Rattle.std.specs.Prelude.{◌≡◌, Some, IsSome, is_some, length};
 ghost use Rattle.xl_tags.specs.Rings.{key_of};
 ghost use Rattle.xl_core.specs.Draining.{is_handed, node_for, Writes};
 ghost use Rattle.xl_core.specs.Greetings.{further, further_at, greeting_at, greeting_frames, with_greeting};
-ghost use Rattle.xl_core.specs.Queues.{fitting};
+ghost use Rattle.xl_core.specs.Queues.{count_fitting};
 
 use super::outgoing::reader_of;
 use crate::Node;
@@ -44,7 +44,7 @@ pub fn hand_chain<B: Branch + Drop>(
     ensures written { Writes (greeting_frames (node_for tags node.now) (greeting_at greetings.old member) member)
         result room.old room.new }
     ensures handed { greetings.new ≡ further_at greetings.old member
-        (fitting (greeting_frames (node_for tags node.now) (greeting_at greetings.old member) member)
+        (count_fitting (greeting_frames (node_for tags node.now) (greeting_at greetings.old member) member)
         (length room.old)) }
 {
     let reader = reader_of(member);
@@ -71,7 +71,7 @@ fn hand_headers<B: Branch + Drop>(
     ensures written { Writes (greeting_frames (node_for tags node.now) (Some greeting.old) member)
         result room.old room.new }
     ensures handed { greeting.new ≡ further
-        (fitting (greeting_frames (node_for tags node.now) (Some greeting.old) member) (length room.old)) greeting.old }
+        (count_fitting (greeting_frames (node_for tags node.now) (Some greeting.old) member) (length room.old)) greeting.old }
 {
     let mut at = 0;
     while let Some(next) = node.put_next(member, tags, greeting, at, room) {

@@ -1,15 +1,18 @@
 // For which members something is left, as the bits of a word: from the lowest on, one for each number from 1 on.
-ghost use Rattle.std.specs.Prelude.{◌≡◌, ◌≢◌, ◌==◌, ◌<◌, ◌^◌, ℕ, suc};
+ghost use Rattle.std.specs.Prelude.{◌≡◌, ◌≢◌, ◌==◌, ◌<◌, ◌^◌, ℕ, List, suc};
 ghost use Rattle.std.specs.Int.{bit_at};
 ghost use Rattle.xl_queues.specs.Broadcasts.{pushed_to_all};
 ghost use Rattle.xl_core.specs.Core.{is_idle_among};
-ghost use Rattle.xl_core.specs.Marks.{mark, StayMarks};
+ghost use Rattle.xl_queues.specs.Queues.{Backlog};
+ghost use Rattle.xl_core.specs.Greetings.{none_greeted};
+ghost use Rattle.xl_core.specs.Marks.{mark, AreMarks, StayMarks};
 ghost use Rattle.xl_core.specs.Queues.{most_waiting};
+ghost use Rattle.xl_core.specs.declared.item.Item.{Item};
 
 use super::greeting::{Greetings, has_greeting};
 use super::outgoing::{Waiting, count_for, reader_of};
 use crate::Item;
-use xl_base::NodeNo;
+use xl_base::{MOST_MEMBERS, NodeNo};
 
 /// Whether nothing is left for a member.
 pub fn is_idle(greetings: &Greetings, waiting: &Waiting, member: NodeNo) -> bool
@@ -35,6 +38,17 @@ pub fn noted(marks: u64, member: NodeNo, idle: bool) -> u64
 {
     let bit = 1 << reader_of(member);
     if idle { marks & !bit } else { marks | bit }
+}
+
+/// No member is greeted any more. If nothing is left for any, none was.
+pub fn forget(greetings: &mut Greetings, marks: u64)
+    requires { (waiting : List (Backlog Item)) × AreMarks marks greetings.old waiting }
+    ensures { greetings.new ≡ none_greeted }
+{
+    if marks == 0 {
+        return;
+    }
+    *greetings = [None; MOST_MEMBERS];
 }
 
 /// An item waits for every number.

@@ -1,4 +1,5 @@
 use super::forks;
+use crate::words::words_of;
 use crate::{Equivocation, Reported, Said, equivocations};
 use std::test::Fail;
 use xl_base::{LedgerId, NodeNo};
@@ -37,7 +38,7 @@ fn reported(journal: u32, id: LedgerId, members: [u32; 5]) -> Result<Reported, F
 /// Member 3, which stands on both lists, tells node 1 x and node 7 y.
 #[test]
 fn a_lie_in_the_overlap_is_shown(rt: HostRuntime) -> Result<(), Fail> {
-    let words = [
+    let spoken = [
         said(1, 1, 1, X)?,
         said(2, 1, 2, X)?,
         said(4, 1, 3, X)?,
@@ -48,10 +49,11 @@ fn a_lie_in_the_overlap_is_shown(rt: HostRuntime) -> Result<(), Fail> {
         said(3, 2, 4, Y)?,
     ];
     let reports = [reported(1, X, ONE)?, reported(2, Y, SEVEN)?];
+    let words = words_of(rt.alloc(), &spoken)?;
     let named = equivocations(rt.alloc(), &words)?;
     let only = Equivocation {
-        first: words[3],
-        other: words[7],
+        first: spoken[3],
+        other: spoken[7],
     };
     assert!(rt; named.as_slice() == [only].as_slice());
     let found = forks(rt.alloc(), &words, &reports)?;
@@ -66,8 +68,9 @@ fn a_lie_in_the_overlap_is_shown(rt: HostRuntime) -> Result<(), Fail> {
 /// The same journals of a member 3 that says x alone.
 #[test]
 fn one_ledger_said_twice_is_no_lie(rt: HostRuntime) -> Result<(), Fail> {
-    let words = [said(3, 1, 4, X)?, said(3, 2, 3, X)?];
+    let spoken = [said(3, 1, 4, X)?, said(3, 2, 3, X)?];
     let reports = [reported(1, X, ONE)?, reported(2, X, SEVEN)?];
+    let words = words_of(rt.alloc(), &spoken)?;
     assert_eq!(rt; equivocations(rt.alloc(), &words)?.len(), 0);
     assert_eq!(rt; forks(rt.alloc(), &words, &reports)?.len(), 0);
     Ok(())
@@ -76,16 +79,17 @@ fn one_ledger_said_twice_is_no_lie(rt: HostRuntime) -> Result<(), Fail> {
 /// A journal in which member 3's word for y came right after its word for x, and nothing was reported.
 #[test]
 fn a_lie_needs_no_fork(rt: HostRuntime) -> Result<(), Fail> {
-    let words = [
+    let spoken = [
         said(3, 1, 4, X)?,
         said(1, 1, 4, Y)?,
         said(3, 1, 5, Y)?,
         said(3, 1, 6, X)?,
     ];
     let only = Equivocation {
-        first: words[0],
-        other: words[2],
+        first: spoken[0],
+        other: spoken[2],
     };
+    let words = words_of(rt.alloc(), &spoken)?;
     let named = equivocations(rt.alloc(), &words)?;
     assert!(rt; named.as_slice() == [only].as_slice());
     Ok(())

@@ -1,13 +1,13 @@
 ghost use Rattle.std.specs.Prelude.{◌≡◌, ◌≤◌, ◌+◌, ◌*◌, ◌/◌, is_some};
 ghost use Rattle.xl_base.specs.Moments.{greatest_millis};
 ghost use Rattle.xl_rounds.specs.Heartbeats.{
-  quiet,
+  quiet_reply,
   said_of,
-  waiting as waiting_of,
+  waiting_of,
   closed_at,
   open_beat as open_beat_of,
   percent_of as percent_of_former,
-  voted,
+  after_vote,
   decision as decision_of,
   is_renewed as is_renewed_of,
   with_new_position,
@@ -17,7 +17,7 @@ ghost use Rattle.xl_rounds.specs.Heartbeats.{
   outcome as outcome_of,
   kind_of as kind_of_outcome,
   ready_after as ready_after_outcome,
-  established,
+  establish_reply,
   establish_beat as establish_beat_of,
   heartbeat as heartbeat_of,
   is_ready,
@@ -105,8 +105,8 @@ impl Round {
     }
 
     fn rest(&mut self) -> Heartbeat
-        ensures told { result ≡ (quiet self.old).answer }
-        ensures after { self.new ≡ (quiet self.old).round }
+        ensures told { result ≡ (quiet_reply self.old).answer }
+        ensures after { self.new ≡ (quiet_reply self.old).round }
     {
         self.ready = None;
         Heartbeat {
@@ -189,8 +189,8 @@ impl Round {
     /// The lines of the phase establish, in their order.
     fn establish(&mut self, round_ms: Millis, second: Secs, finished: u32) -> Heartbeat
         requires { round_ms ≤ greatest_millis }
-        ensures told { result ≡ (established round_ms second finished self.old).answer }
-        ensures after { self.new ≡ (established round_ms second finished self.old).round }
+        ensures told { result ≡ (establish_reply round_ms second finished self.old).answer }
+        ensures after { self.new ≡ (establish_reply round_ms second finished self.old).round }
     {
         let decision = self.decide(round_ms, second);
         let is_new = self.is_renewed(second, decision);
@@ -208,7 +208,7 @@ impl Round {
     fn decide(&mut self, round_ms: Millis, second: Secs) -> Decision
         requires { round_ms ≤ greatest_millis }
         ensures decision { result ≡ decision_of self.old round_ms second }
-        ensures voted { self.new ≡ voted self.old round_ms second }
+        ensures voted { self.new ≡ after_vote self.old round_ms second }
     {
         let proposing = self.setting.mode.is_proposing();
         let needed = threshold(percent_of(self.former, round_ms));

@@ -12,7 +12,7 @@ ghost use Rattle.xl_rounds.specs.Proposals.{
   with_proposal,
   with_handed,
   later_of,
-  started,
+  started_round,
 };
 
 use super::{LEAVING, Round};
@@ -41,7 +41,7 @@ impl Round {
     pub fn start(&mut self, registry: &Registry, previous: LedgerNo, mode: Mode, now: Millis)
         requires known { previous < length registry.now.headers }
         requires moment { now ≤ greatest_millis }
-        ensures started { self.new ≡ started registry.now.headers previous mode now self.old }
+        ensures started { self.new ≡ started_round registry.now.headers previous mode now self.old }
         // So the round is on that ledger.
         ensures setting { self.new.setting ≡ setting_on_of registry.now.headers previous mode now }
     {

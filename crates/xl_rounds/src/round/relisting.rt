@@ -1,5 +1,5 @@
 ghost use Rattle.std.specs.Prelude.{◌≡◌};
-ghost use Rattle.xl_rounds.specs.Relisting.{relisted, unless_listed, without_member};
+ghost use Rattle.xl_rounds.specs.Relisting.{relisted_round, unless_listed, without_member};
 
 use super::Round;
 use crate::members::{member_at, place_of};
@@ -10,7 +10,7 @@ impl Round {
     /// Goes over to another list: positions, held sets, later proposals and notes of leaving of members that aren't on
     /// it go, and all else stays.
     pub fn relist(&mut self, list: &List)
-        ensures relisted { self.new ≡ relisted list.now.members self.old }
+        ensures relisted { self.new ≡ relisted_round list.now.members self.old }
         // So the round stays on its ledger.
         ensures setting { self.new.setting ≡ self.old.setting }
     {

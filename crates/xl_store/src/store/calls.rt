@@ -230,9 +230,11 @@ impl<B: Branch + Drop, K: Keeper + Drop> Store<B, K> {
         ensures called { IfOk result (λ _. Called self.now pass.old Stop Done pass.new) }
         ensures refused { IfErr result (λ end. Refused self.now pass.old end pass.new) }
     {
-        let (mut turn, page) = self.enter(rt, pass, CoreEvent::Stop)?;
+        let blank = self.page_of_stop(rt)?;
+        let (mut turn, page) = self.enter_with(rt, pass, blank)?;
         turn.object.core.stop();
         self.finish(pass, turn, page);
+        self.spares.tell();
         Ok(())
     }
 
@@ -243,7 +245,8 @@ impl<B: Branch + Drop, K: Keeper + Drop> Store<B, K> {
         ensures called { IfOk result (λ stopped. Called self.now pass.old Stopped (Told stopped) pass.new) }
         ensures refused { IfErr result (λ end. Refused self.now pass.old end pass.new) }
     {
-        let (turn, page) = self.enter(rt, pass, CoreEvent::Stopped)?;
+        let blank = self.page_of_question(rt)?;
+        let (turn, page) = self.enter_with(rt, pass, blank)?;
         let stopped = turn.object.core.stopped();
         self.finish(pass, turn, page);
         Ok(stopped)

@@ -14,6 +14,7 @@ use super::{Closed, Pass, Spared, Store};
 use crate::entry::Entry;
 use crate::home::Home;
 use crate::journal::Entries;
+use crate::spares::Spares;
 use std::alloc::{AllocFailed, Global};
 use std::collections::LinkedList;
 use xl_core::Core;
@@ -72,13 +73,24 @@ impl<B: Branch + Drop, K: Keeper + Drop> Store<B, K> {
         ensures pass { IfOk result (λ opened. IsOf opened.0 opened.1 × (known opened.1 ≡ newcomer)) }
         ensures spared { IfErr result (λ spared. (spared.core ≡ core) × (spared.keeper ≡ keeper)) }
     {
+        let Ok(spares) = Spares::new(alloc, keeps) else {
+            return Err(Spared { core, keeper });
+        };
         let kept = no_entries(alloc, keeps);
         let home = match Box::new(alloc, Home { core, keeper, kept }) {
             Ok(home) => home,
             Err(AllocFailed { value }) => return Err(spare(value)),
         };
         match TicketLock::open(alloc, home, limit) {
-            Ok((lock, pass)) => Ok((Store { lock, alloc, keeps }, pass)),
+            Ok((lock, pass)) => {
+                let store = Store {
+                    lock,
+                    alloc,
+                    keeps,
+                    spares,
+                };
+                Ok((store, pass))
+            }
             Err(xl_turns::Spared { object }) => Err(spare(Box::into_inner(object))),
         }
     }
@@ -127,6 +139,7 @@ impl<B: Branch + Drop, K: Keeper + Drop> Store<B, K> {
             lock,
             alloc: _,
             keeps: _,
+            spares: _,
         } = self;
         let Held { object, journal } = lock.close(pass);
         let Home { core, keeper, kept } = Box::into_inner(object);

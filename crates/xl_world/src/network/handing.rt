@@ -1,18 +1,22 @@
 // What comes to a node: frames that were sent, bytes that nobody need have sent, and what liars say.
-ghost use Rattle.std.specs.Prelude.{◌≡◌, ◌≤◌, ◌++◌, if◌then◌else◌, slice_get, OnOk};
+ghost use Rattle.std.specs.Prelude.{◌≡◌, ◌≤◌, ◌++◌, ℕ, if◌then◌else◌, slice_get, IsTrue, OnOk};
 ghost use Rattle.xl_base.specs.Counts.{one_more};
 ghost use Rattle.xl_base.specs.Moments.{greatest_millis};
+ghost use Rattle.xl_core.specs.Hearing.{bytes_as_sealed};
+ghost use Rattle.xl_core.specs.declared.event.CoreEvent.TheVariants.{Frame};
 ghost use Rattle.xl_sched.specs.Fits.{IsFitLied};
+ghost use Rattle.xl_tags.specs.Rings.{schedule_ring};
 ghost use Rattle.xl_world.specs.Ends.{Grows};
 ghost use Rattle.xl_world.specs.Rested.{IsAtRest};
 ghost use Rattle.xl_world.specs.Schedule.{delivery_of, hand_steps, lied_bytes, outcomes_at, steps_at, told_in};
+ghost use Rattle.xl_world.specs.Seen.{MayDo, deed_event};
 ghost use Rattle.xl_world.specs.World.{run};
 
 use super::Network;
 use crate::Outcome;
 use crate::act::{NodeAnswer, position_of};
 use crate::forged::{is_forged, is_liar};
-use crate::lie::{put_blank_lie, put_lie};
+use crate::lie::put_lie;
 use crate::place::Fate;
 use xl_base::{Millis, NodeNo, OutOfMemory};
 use xl_core::Deed;
@@ -44,13 +48,8 @@ impl Network {
         let Some(k) = position_of(&self.places, to) else {
             return Ok(());
         };
-        let length = frame.put(&mut self.room);
-        let deed = Deed::Sealed {
-            now: at,
-            bytes: &self.room[..length],
-        };
         let receiver = &mut self.places[k];
-        receiver.happens(&deed, Fate::Saved, answer);
+        receiver.hears_sent(at, &frame, &mut self.room, answer);
         self.settle(to, answer, told)
     }
 
@@ -90,8 +89,15 @@ impl Network {
             ≡ told.old.items ++ told_in self.old (hand_steps self.old at to bytes.now)) }
         ensures grows { Grows self.old self.new }
     {
-        let forged = is_forged(&self.liars, &mut self.traffic, &self.places, to, bytes);
-        let deed = Deed::Frame { now: at, bytes };
+        let forged = is_forged(
+            &self.liars,
+            &mut self.traffic,
+            &self.places,
+            to,
+            bytes,
+            &mut self.room,
+        );
+        let deed = handed(at, bytes, forged);
         self.act(to, &deed, Fate::Saved, answer, told)?;
         self.forged = counted(self.forged, forged);
         Ok(())
@@ -122,13 +128,8 @@ impl Network {
         let Some(k) = position_of(&self.places, to) else {
             return Ok(());
         };
-        let length = put_blank_lie(from, to, lie, &mut *self.room);
-        let deed = Deed::Sealed {
-            now: at,
-            bytes: &self.room[..length],
-        };
         let receiver = &mut self.places[k];
-        receiver.happens(&deed, Fate::Saved, answer);
+        receiver.hears_lie(at, from, lie, &mut self.room, answer);
         self.settle(to, answer, told)
     }
 
@@ -155,6 +156,20 @@ impl Network {
         let mut room = [0; LONGEST_FRAME];
         let length = put_lie(from, to, lie, &mut room);
         self.hand_in(at, to, &room[..length], answer, told)
+    }
+}
+
+/// How bytes come to a node. If they are forged their tag is known to be right, and isn't looked at again.
+fn handed(at: Millis, bytes: &[u8], forged: bool) -> Deed<'_>
+    requires moment { at ≤ greatest_millis }
+    ensures event { (to : ℕ) → (IsTrue forged → bytes_as_sealed (schedule_ring to) bytes.now ≡ bytes.now)
+        → deed_event to result ≡ Frame at bytes.now }
+    ensures may { (to : ℕ) → MayDo to result }
+{
+    if forged {
+        Deed::Sealed { now: at, bytes }
+    } else {
+        Deed::Frame { now: at, bytes }
     }
 }
 

@@ -1,4 +1,4 @@
-use Rattle.std.proofs.Common.{◌≡◌, ◌∙◌, ap, arith, sym, Option}
+use Rattle.std.proofs.Common.{◌≡◌, ◌∙◌, ap, arith, sym}
 use Rattle.std.specs.Prelude.{is_some}
 use Rattle.xl_tags.specs.Rings.{key_of}
 use Rattle.xl_audit.proofs.Ranging.{found_first, found_later}

@@ -1,5 +1,5 @@
 use Rattle.std.proofs.Common.{◌≡◌, ◌-◌}
-use Rattle.std.specs.Prelude.{find, is_some}
+use Rattle.std.specs.Prelude.{find}
 use Rattle.std.specs.List.{range_with_len}
 use Rattle.xl_blame.specs.Networks.{differ_at}
 use Rattle.xl_blame.proofs.networks.differ_somewhere.Given as goal

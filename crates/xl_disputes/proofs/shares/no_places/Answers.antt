@@ -2,6 +2,7 @@
 use Rattle.std.proofs.Common.{◌≡◌, ℕ, zero, suc, ◌+◌, ◌-◌, ◌^◌, [], ◌∷◌, ◌++◌, map, refl, ap, ◌∙◌, arith}
 use Rattle.std.specs.List.{range_with_len}
 use Rattle.xl_disputes.specs.Holdings.{empty_own, no_holding}
+use Rattle.xl_disputes.specs.declared.shares.TheConstants.{PLACES}
 use Rattle.xl_disputes.proofs.shares.no_places.Goals as goal
 
 one_more : (s n : ℕ) → map (λ m. no_holding (2 ^ m)) (range_with_len s n) ++ no_holding (2 ^ (s + n)) ∷ [] ≡ map (λ m. no_holding (2 ^ m)) (range_with_len s (n + 1))
@@ -30,5 +31,5 @@ loop-place-preserved c =
 
 pub returns : goal.returns
 returns c =
-    let all : c.loop-place.place ≡ 65 = omega (arith, c.loop-place-test.false, c.loop-place.auto.place-end (omega arith)) in
+    let all : c.loop-place.place ≡ PLACES = omega (arith, c.loop-place-test.false, c.loop-place.auto.place-end (omega arith)) in
     c.loop-place.invariant.all ∙ ap (λ n. empty_own ∷ map (λ m. no_holding (2 ^ m)) (range_with_len 0 (n - 1))) all

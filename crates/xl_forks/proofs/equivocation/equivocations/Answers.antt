@@ -7,8 +7,7 @@ use Rattle.xl_forks.proofs.Naming.{all_named}
 use Rattle.xl_forks.proofs.equivocation.equivocations.Goals as goal
 
 pub returns : goal.returns
-returns c =
-    let words = c.in_ok-words.words in
-    IfOk-weaker c.equivocations_among.result (λ found. found.items ≡ filter_map (λ e. equivocation_kept (words_seen e.1)) c.in_ok-words.words.entries) (λ found. found.items ≡ equivocations_in c.args.said.now)
-    (λ found are. are ∙ all_named c.in_ok-words.words c.args.said.now c.in_ok-words.ensures c.equivocations_among.ensures.ordered c.equivocations_among.ensures.each)
+returns c = λ said kept.
+    IfOk-weaker c.equivocations_among.result (λ found. found.items ≡ filter_map (λ e. equivocation_kept (words_seen e.1)) c.args.words.now.entries) (λ found. found.items ≡ equivocations_in said)
+    (λ found are. are ∙ all_named c.args.words.now said kept c.equivocations_among.ensures.ordered c.equivocations_among.ensures.each)
     c.equivocations_among.ensures.value

@@ -5,14 +5,14 @@ use Rattle.std.specs.Result.{IsOk}
 use Rattle.std.proofs.lemmas.List.{length-take}
 use Rattle.xl_lists.specs.Lists.{TrustedList, list_of, IsValid}
 use Rattle.xl_lists.specs.declared.refusal.ListRefusal.{ListRefusal}
-use Rattle.xl_nunl.specs.Lists.{IsNegative, MayBeInForce, list_without, least_quorum, staying}
+use Rattle.xl_nunl.specs.Lists.{IsNegative, MayBeInForce, list_without, least_quorum, staying_members}
 use Rattle.xl_nunl.specs.Deciding.{negative_after}
 use Rattle.xl_nunl.proofs.Staying.{stays_list, stays_lawful}
 use Rattle.xl_nunl.proofs.deciding.in_force.Goals as goal
 
 -- what is made of the members at the front and of the quorums of both kinds
 made : (full : TrustedList) (negative room members : List ℕ) (len four three quorum : ℕ) (result : Result TrustedList ListRefusal) →
-    IsValid full → IsNegative full.members negative → take len room ≡ staying full.members negative → length room ≡ 64 → len ≤ 64 →
+    IsValid full → IsNegative full.members negative → take len room ≡ staying_members full.members negative → length room ≡ 64 → len ≤ 64 →
     four ≡ (4 * len + 4) / 5 → three ≡ least_quorum (length members) → members ≡ full.members → quorum ≡ max four three →
     result ≡ list_of (take len room) quorum → result ≡ Ok (list_without full.members negative)
 made full negative room members len four three quorum result valid is put long within is_four is_three all is_quorum is_made =

@@ -1,17 +1,9 @@
 -- each part of the text is put behind what was there
-use Rattle.std.proofs.Common.{◌≡◌, ◌++◌, ℕ, List, Result, Ok, Err, ap, ◌∙◌, codes, append_assoc}
-use Rattle.std.specs.Prelude.{OnOk}
+use Rattle.std.proofs.Common.{◌++◌, ℕ, List, codes}
 use Rattle.std.specs.String.{string_bytes}
 use Rattle.xl_status.specs.Texts.{profile_lines, core_lines, member_lines, end_line}
+use Rattle.xl_status.proofs.Parts.{behind, on_ok}
 use Rattle.xl_status.proofs.text.push_status.Goals as goal
-
-on_ok : {T E : Type 0} (r : Result T E) (P Q : Type 0) → OnOk r P → (P → Q) → OnOk r Q
-on_ok (Ok x) P Q is go = go is
-on_ok (Err e) P Q is go = tt
-
-behind : (old before after parts part : List ℕ) → before ≡ old ++ parts → after ≡ before ++ part
-    → after ≡ old ++ (parts ++ part)
-behind old before after parts part was is = is ∙ ap (λ (t : List ℕ). t ++ part) was ∙ append_assoc old parts part
 
 pub returns : goal.returns
 returns c =

@@ -71,7 +71,7 @@ returns-in-Err-Memory-clause-summaries g c =
 
 pub returns-in-Ok-Tell-clause-others : goal.returns-in-Ok-Tell-clause-others
 returns-in-Ok-Tell-clause-others g c =
-    λ _. (c.unopened.ensures.keeper, refl, c.unopened.ensures.journal)
+    λ _. (c.unopened.ensures.keeper, refl, c.unopened.ensures.journal, refl, c.unopened.ensures.bulletin)
 
 pub returns-in-Ok-Tell-clause-store : goal.returns-in-Ok-Tell-clause-store
 returns-in-Ok-Tell-clause-store g c =
@@ -99,7 +99,13 @@ returns-in-Err-Refused-clause-store g c =
 
 pub returns-in-Err-Refused-clause-others : goal.returns-in-Err-Refused-clause-others
 returns-in-Err-Refused-clause-others g c =
-    λ _. (c.unopened-in-Err-Refused.ensures.keeper, refl, c.unopened-in-Err-Refused.ensures.journal)
+    λ _. (
+      c.unopened-in-Err-Refused.ensures.keeper,
+      refl,
+      c.unopened-in-Err-Refused.ensures.journal,
+      refl,
+      c.unopened-in-Err-Refused.ensures.bulletin,
+    )
 
 pub returns-in-Err-Memory-clause-store : goal.returns-in-Err-Memory-clause-store
 returns-in-Err-Memory-clause-store g c =
@@ -111,7 +117,13 @@ returns-in-Err-Memory-clause-unasked g c =
 
 pub returns-in-Err-Memory-clause-others : goal.returns-in-Err-Memory-clause-others
 returns-in-Err-Memory-clause-others g c =
-    λ _. (c.unopened-in-Err-Memory.ensures.keeper, refl, c.unopened-in-Err-Memory.ensures.journal)
+    λ _. (
+      c.unopened-in-Err-Memory.ensures.keeper,
+      refl,
+      c.unopened-in-Err-Memory.ensures.journal,
+      refl,
+      c.unopened-in-Err-Memory.ensures.bulletin,
+    )
 
 pub returns-in-Ok-Tell-clause-words : goal.returns-in-Ok-Tell-clause-words
 returns-in-Ok-Tell-clause-words g c =
@@ -191,7 +203,23 @@ returns-in-Ok-Tell-clause-node_ran g c =
 
 pub returns-in-Ok-Node-clause-node : goal.returns-in-Ok-Node-clause-node
 returns-in-Ok-Node-clause-node g c =
-    λ _. inl c.validator.ensures.judged
+    λ _. ⊎_elim (λ judged. inl judged) (λ refused. inr (inl refused)) c.validator.ensures.judged
+
+pub returns-in-Ok-Tell-clause-told : goal.returns-in-Ok-Tell-clause-told
+returns-in-Ok-Tell-clause-told g c =
+    λ is. let no = sym (c.in-Ok-Tell.ensures.found ∙ ap Some c.in-Ok-Tell.field-0-is) ∙ is in absurd cc
+
+pub returns-in-Ok-Node-clause-told : goal.returns-in-Ok-Node-clause-told
+returns-in-Ok-Node-clause-told g c =
+    λ _. inl c.validator.ensures.told
+
+pub returns-in-Err-Refused-clause-told : goal.returns-in-Err-Refused-clause-told
+returns-in-Err-Refused-clause-told g c =
+    λ is. let no = sym (unasked (command_of (words_of c.args.words.now)) (Err c.in-Err-Refused.field-0) (ap Err c.in-Err-Refused.field-0-is) c.in-Err-Refused.ensures.given) ∙ is in absurd cc
+
+pub returns-in-Err-Memory-clause-told : goal.returns-in-Err-Memory-clause-told
+returns-in-Err-Memory-clause-told g c =
+    λ _. inr (c.unopened-in-Err-Memory.ensures.status, c.unopened-in-Err-Memory.ensures.bulletin, refl)
 
 pub returns-in-Ok-Node-clause-ends : goal.returns-in-Ok-Node-clause-ends
 returns-in-Ok-Node-clause-ends g c =
@@ -200,7 +228,7 @@ returns-in-Ok-Node-clause-ends g c =
       full = c.validator.ensures.full;
       submits = c.validator.ensures.submits;
       beats = c.validator.ensures.beats;
-      complete = λ quiet turns. inl (c.validator.ensures.complete quiet.0 quiet.1 quiet.2 quiet.3 turns);
+      complete = λ quiet turns. inl (c.validator.ensures.complete quiet.0 quiet.1 quiet.2 quiet.3 quiet.4 turns);
     }
 
 pub returns-in-Ok-Node-clause-node_ran : goal.returns-in-Ok-Node-clause-node_ran
@@ -221,14 +249,14 @@ returns-in-Err-Refused-clause-node_ran g c =
 
 pub returns-in-Err-Memory-clause-node : goal.returns-in-Err-Memory-clause-node
 returns-in-Err-Memory-clause-node g c =
-    λ _. inr (record {
+    λ _. inr (inr (record {
       memory = c.unopened-in-Err-Memory.ensures.status;
       unopened = c.unopened-in-Err-Memory.ensures.journal;
       unread = refl;
       unwritten = refl;
       kept = c.unopened-in-Err-Memory.ensures.keeper;
       unlinked = refl;
-    })
+    }))
 
 pub returns-in-Err-Memory-clause-ends : goal.returns-in-Err-Memory-clause-ends
 returns-in-Err-Memory-clause-ends g c =

@@ -18,6 +18,9 @@ returns-in-Merge-clause-keeps g c = rw c.in-Merge.is c.tell-in-Merge.ensures
 pub returns-in-Audit-clause-keeps : goal.returns-in-Audit-clause-keeps
 returns-in-Audit-clause-keeps g c = rw c.in-Audit.is c.tell-in-Audit.ensures
 
+pub returns-in-Blame-clause-keeps : goal.returns-in-Blame-clause-keeps
+returns-in-Blame-clause-keeps g c = rw c.in-Blame.is c.tell-in-Blame.ensures
+
 pub returns-in-Flags-clause-keeps : goal.returns-in-Flags-clause-keeps
 returns-in-Flags-clause-keeps g c = rw c.in-Flags.is c.tell-in-Flags.ensures
 
@@ -47,6 +50,9 @@ returns-in-Merge-clause-unread g c = rw c.in-Merge.is (λ no. absurd (reads_on n
 
 pub returns-in-Audit-clause-unread : goal.returns-in-Audit-clause-unread
 returns-in-Audit-clause-unread g c = rw c.in-Audit.is (λ no. absurd (reads_some no))
+
+pub returns-in-Blame-clause-unread : goal.returns-in-Blame-clause-unread
+returns-in-Blame-clause-unread g c = rw c.in-Blame.is (λ no. absurd (reads_on no))
 
 pub returns-in-Flags-clause-unread : goal.returns-in-Flags-clause-unread
 returns-in-Flags-clause-unread g c = rw c.in-Flags.is (λ no. absurd (reads_on no))

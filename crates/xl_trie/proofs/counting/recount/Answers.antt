@@ -1,6 +1,6 @@
 -- the vote is at one span and below those above it, so their counts change, and none exceeds the votes
 use Rattle.std.proofs.Common.{◌≡◌, ◌==◌, Some, sym, subst, ◌∙◌, arith}
-use Rattle.xl_trie.proofs.Common.{Name, Vote, is_on_chain, Span, changed, with_counts, spans, Becomes, count_by-le-length}
+use Rattle.xl_trie.proofs.Common.{Name, Vote, is_on_chain, Span, changed_count, with_counts, spans, Becomes, count_by-le-length}
 use Rattle.xl_trie.proofs.Listing.{some_is}
 use Rattle.xl_trie.proofs.Recounting.{counts_keep, linked_on, recounted, ends_on}
 use Rattle.xl_trie.proofs.Trees.{one_name}
@@ -28,8 +28,8 @@ returns-clause-trie c = λ votes now v T change s e at.
     let S = spans c.args.nodes.now in
     let S1 = spans c.set_counts.new.nodes in
     let own = some_is c.span_at-span.result s (sym c.span_at-span.ensures ∙ e) in
-    let B : Becomes S S1 c.args.at (Some (with_counts s (changed c.args.change s.tip) s.branch)) =
-    subst (λ (x : Span). Becomes S S1 c.args.at (Some (with_counts s (changed c.args.change x.tip) x.branch))) own
+    let B : Becomes S S1 c.args.at (Some (with_counts s (changed_count c.args.change s.tip) s.branch)) =
+    subst (λ (x : Span). Becomes S S1 c.args.at (Some (with_counts s (changed_count c.args.change x.tip) x.branch))) own
     (subst (λ n. Becomes S S1 c.args.at (Some (with_counts s n c.span_at-span.result.branch))) c.of.ensures (c.set_counts.ensures.spans s e)) in
     record {
       spans = recounted c.args.registry.now.headers c.requires.ledgers c.args.change v votes now change S S1 (spans c.recount_up.new.nodes) c.args.at s e at T.spans B (c.recount_up.ensures.counts _ B.changed);

@@ -4,31 +4,33 @@ use Rattle.std.specs.Prelude.{is_some}
 use Rattle.xl_heartbeat.specs.Outputs.{Output, output}
 use Rattle.xl_audit.specs.Rereading.{SaysYes}
 use Rattle.xl_workers.specs.Linking.{hub_seen}
+use Rattle.xl_workers.specs.Runs.{status_of_end}
 use Rattle.xl_validator.specs.Preparing.{task_in}
 use Rattle.xl_validator.specs.Recordings.{IsWritten}
 use Rattle.xl_validator.specs.Validators.{between}
 use Rattle.xl_validator.specs.declared.recording.Recording.{Recording}
 use Rattle.xl_validator.proofs.Behind.{ends, kept_there, legal_there, text_there, legal_of}
 use Rattle.xl_validator.proofs.Leaving.{leaves_by}
+use Rattle.xl_validator.proofs.Told.{of_either}
 use Rattle.xl_validator.proofs.command.start.Goals as goal
 
-pub recorded-requires : goal.recorded-requires
-recorded-requires g c =
+pub recorded-ended-requires : goal.recorded-ended-requires
+recorded-ended-requires g c =
     let old = c.args.output.now in
-    let new = c.node.new.sink in
+    let new = c.node-ran.new.sink in
     let core = c.in-Ok-prepare.field-0.core in
     let task = task_in c.in-Ok-prepare.field-0.plan in
     let made = c.recording_of-recording in
-    let left = c.left_by-ended in
-    let ran = c.node.ensures in
+    let left = c.left_by-left in
+    let ran = c.node-ran.ensures in
     let outside = between (hub_seen (g.H.Hub.faults c.args.hub.now) (g.H.Hub.asked c.args.hub.now))
-    (hub_seen (g.H.Hub.faults c.node.new.hub) (g.H.Hub.asked c.node.new.hub))
+    (hub_seen (g.H.Hub.faults c.node-ran.new.hub) (g.H.Hub.asked c.node-ran.new.hub))
     (g.O.Sink.held old) (g.O.Sink.faults old) (g.O.Sink.held new) (g.O.Sink.faults new) in
     let leaves = leaves_by g.K.Keeper.held g.K.Keeper.saves g.K.Keeper.faults g.K.Keeper.save_gives core task
     (g.C.Clock.may_give c.args.host.now.clock.now) (g.H.Hub.gives c.args.hub.now) outside old new
     c.load.new.self left.result.0.keeper left.result.0.status left.result.0.journal
-    (c.node.new.hub ≡ c.args.hub.now)
-    (λ same. ap (λ h. hub_seen (g.H.Hub.faults h) (g.H.Hub.asked h)) same) c.node.result (λ r. r.end) (λ r. r.closed.core) (λ r. r.closed.keeper) (λ r. r.closed.journal)
+    (c.node-ran.new.hub ≡ c.args.hub.now)
+    (λ same. ap (λ h. hub_seen (g.H.Hub.faults h) (g.H.Hub.asked h)) same) c.node-ran.result (λ r. r.end) (λ r. r.closed.core) (λ r. r.closed.keeper) (λ r. r.closed.journal)
     (λ s. s.core) (λ s. s.keeper)
     left.ensures.status left.ensures.keeper left.ensures.journal
     ran.legal ran.run ran.keeper ran.limit ran.spared ran.nothing in
@@ -40,7 +42,7 @@ recorded-requires g c =
           (g.C.Clock.may_give c.args.host.now.clock.now) (g.H.Hub.gives c.args.hub.now) outside
           c.load.new.self left.result.0.keeper left.result.0.status left.result.0.journal leaves.goes);
       opened = leaves.opened;
-      kept = λ asked. kept_there c.node.result (λ r. r.closed.entries) (λ r. r.closed.journal)
+      kept = λ asked. kept_there c.node-ran.result (λ r. r.closed.entries) (λ r. r.closed.journal)
           left.result.1 left.result.0.journal c.in-Ok-prepare.field-0.plan.keeps c.args.judged.settings.journal
           left.ensures.entries left.ensures.journal ran.kept c.in-Ok-prepare.ensures.keeps (sym made.ensures.asked ∙ asked);
     }
@@ -49,21 +51,21 @@ pub returns-in-Ok-prepare : goal.returns-in-Ok-prepare
 returns-in-Ok-prepare g c =
     let shown : g.row.O.Denot → Output = λ o. output (g.O.Sink.held o) (g.O.Sink.faults o) in
     let old = c.args.output.now in
-    let new = c.node.new.sink in
+    let new = c.node-ran.new.sink in
     let old_hub = hub_seen (g.H.Hub.faults c.args.hub.now) (g.H.Hub.asked c.args.hub.now) in
-    let new_hub = hub_seen (g.H.Hub.faults c.node.new.hub) (g.H.Hub.asked c.node.new.hub) in
+    let new_hub = hub_seen (g.H.Hub.faults c.node-ran.new.hub) (g.H.Hub.asked c.node-ran.new.hub) in
     let core = c.in-Ok-prepare.field-0.core in
     let task = task_in c.in-Ok-prepare.field-0.plan in
     let made = c.recording_of-recording in
-    let left = c.left_by-ended in
-    let ran = c.node.ensures in
-    let done = c.recorded in
+    let left = c.left_by-left in
+    let ran = c.node-ran.ensures in
+    let done = c.recorded-ended in
     let leaves = leaves_by g.K.Keeper.held g.K.Keeper.saves g.K.Keeper.faults g.K.Keeper.save_gives core task
     (g.C.Clock.may_give c.args.host.now.clock.now) (g.H.Hub.gives c.args.hub.now)
     (between old_hub new_hub (g.O.Sink.held old) (g.O.Sink.faults old) (g.O.Sink.held new) (g.O.Sink.faults new)) old new
     c.load.new.self left.result.0.keeper left.result.0.status left.result.0.journal
-    (c.node.new.hub ≡ c.args.hub.now)
-    (λ same. ap (λ h. hub_seen (g.H.Hub.faults h) (g.H.Hub.asked h)) same) c.node.result (λ r. r.end) (λ r. r.closed.core) (λ r. r.closed.keeper) (λ r. r.closed.journal)
+    (c.node-ran.new.hub ≡ c.args.hub.now)
+    (λ same. ap (λ h. hub_seen (g.H.Hub.faults h) (g.H.Hub.asked h)) same) c.node-ran.result (λ r. r.end) (λ r. r.closed.core) (λ r. r.closed.keeper) (λ r. r.closed.journal)
     (λ s. s.core) (λ s. s.keeper)
     left.ensures.status left.ensures.keeper left.ensures.journal
     ran.legal ran.run ran.keeper ran.limit ran.spared ran.nothing in
@@ -102,4 +104,10 @@ returns-in-Ok-prepare g c =
       write = all.write;
       keeper = λ fault. absurd (all.keeper fault);
       net = all.net;
+      told = of_either g.D.Board.show_gives c.args.judged.settings c.args.judged.now done.result.journal done.result.status
+          c.in-Ok.kept c.node-ran.result (λ r. r.closed.journal) (λ r. r.closed.core) (λ r. status_of_end r.end) core
+          c.args.bulletin.now c.node-ran.new.bulletin c.tell_end-in-Ok-prepare.new.bulletin c.status_left-last.result
+          left.result.0.journal (is_some made.result) left.result.0.status
+          c.in-Ok-prepare.ensures.core ran.life ran.told ran.untold c.status_left-last.ensures left.ensures.journal
+          left.ensures.status done.ensures.left done.ensures.none c.tell_end-in-Ok-prepare.ensures;
     }

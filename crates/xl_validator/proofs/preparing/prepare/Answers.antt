@@ -14,21 +14,21 @@ open-requires-clause-keyed c =
     c.keys_of-keys.ensures.own c.keys_of-keys.ensures.peers
     (ap (are_peers s.me s.list.members) c.as_slice.ensures ∙ c.requires.runnable.peers)
 
-pub returns-in-Ok-open-clause-task : goal.returns-in-Ok-open-clause-task
-returns-in-Ok-open-clause-task c =
-    the_task c.args.judged.settings _ c.in-Ok-open.core c.in-Ok.plan c.in-Ok.ensures.plan c.args.judged.now
+pub returns-in-Ok-clause-task : goal.returns-in-Ok-clause-task
+returns-in-Ok-clause-task c =
+    the_task c.args.judged.settings _ c.in-Ok.core c.in_ok-plan.plan c.in_ok-plan.ensures.plan c.args.judged.now
     (same_pulse c.args.judged.settings c.args.judged.now c.copy.result c.copy.ensures)
 
-pub returns-in-Ok-open-clause-ready : goal.returns-in-Ok-open-clause-ready
-returns-in-Ok-open-clause-ready c =
-    is_ready c.args.judged.settings _ c.in-Ok-open.core c.in-Ok.plan c.in-Ok.ensures.plan c.keys_of-keys.result
+pub returns-in-Ok-clause-ready : goal.returns-in-Ok-clause-ready
+returns-in-Ok-clause-ready c =
+    is_ready c.args.judged.settings _ c.in-Ok.core c.in_ok-plan.plan c.in_ok-plan.ensures.plan c.keys_of-keys.result
     c.as_slice.result.now c.as_slice.ensures c.keys_of-keys.ensures.peers
-    (ap (λ (core : Core). core.node.keys) c.in-Ok-open.ensures.opened) c.requires.runnable
+    (ap (λ (core : Core). core.node.keys) c.in-Ok.ensures.opened) c.requires.runnable
 
-pub returns-in-Ok-open-clause-keyed : goal.returns-in-Ok-open-clause-keyed
-returns-in-Ok-open-clause-keyed c =
+pub returns-in-Ok-clause-keyed : goal.returns-in-Ok-clause-keyed
+returns-in-Ok-clause-keyed c =
     let s = c.args.judged.settings in
     ever_keyed c.keys_of-keys.result s.me c.as_slice.result.now c.keys_of-keys.ensures.own c.keys_of-keys.ensures.peers
-    s.publishing c.in-Ok-open.core (ap (λ (core : Core). core.node.keys) c.in-Ok-open.ensures.opened)
+    s.publishing c.in-Ok.core (ap (λ (core : Core). core.node.keys) c.in-Ok.ensures.opened)
     (subst (λ (ps : List PeerSetting). IfSome s.publishing (AreEverPeers s.me ps)) (sym c.as_slice.ensures)
     c.requires.runnable.ever)

@@ -1,4 +1,4 @@
--- the text is five pieces, each put behind what was there, however these are grouped
+-- the text is six pieces, each put behind what was there, however these are grouped
 use Rattle.std.proofs.Common.{ℕ, List, ◌++◌, ap, ◌∙◌, codes, append_assoc}
 use Rattle.std.specs.String.{string_bytes}
 use Rattle.xl_words.specs.Help.{streams_text}
@@ -12,8 +12,11 @@ returns c =
     let b : List ℕ = codes "and negative read a schedule, which begins with the line: xl-schedule 1\n" in
     let d : List ℕ = codes "merge reads rolls, in a text that begins with the line: xl-publish 1\n" in
     let e : List ℕ = codes "audit reads a written journal, which begins with the line: xl-journal 1\n" in
-    let f : List ℕ = codes "show reads the bytes of frames, and node its settings, which are TOML.\n\n" in
-    c.in_ok-push_str-5.ensures.bytes
+    let f : List ℕ = codes "blame reads one journal or more, each right behind the one before it.\n" in
+    let g : List ℕ = codes "show reads the bytes of frames, and node its settings, which are TOML.\n\n" in
+    c.in_ok-push_str-6.ensures.bytes
+    ∙ ap (λ (xs : List ℕ). xs ++ g)
+    (c.in_ok-push_str-5.ensures.bytes
     ∙ ap (λ (xs : List ℕ). xs ++ f)
     (c.in_ok-push_str-4.ensures.bytes
     ∙ ap (λ (xs : List ℕ). xs ++ e)
@@ -21,4 +24,5 @@ returns c =
     ∙ ap (λ (xs : List ℕ). xs ++ d) (c.in_ok-push_str-2.ensures.bytes ∙ ap (λ (xs : List ℕ). xs ++ b) c.in_ok-push_str.ensures.bytes ∙ append_assoc old a b)
     ∙ append_assoc old (a ++ b) d)
     ∙ append_assoc old ((a ++ b) ++ d) e)
-    ∙ append_assoc old (((a ++ b) ++ d) ++ e) f
+    ∙ append_assoc old (((a ++ b) ++ d) ++ e) f)
+    ∙ append_assoc old ((((a ++ b) ++ d) ++ e) ++ f) g

@@ -1,4 +1,4 @@
--- none of the nine commands has an argument that is global, so that each is added with its own rule alone
+-- none of the ten commands has an argument that is global, so that each is added with its own rule alone
 use Rattle.std.proofs.Common.{◌≡◌, ◌∙◌, ◌||◌, false, ap, ap₂, codes}
 use Rattle.std.proofs.lemmas.Result.{IfOk-weaker}
 use Rattle.clap.specs.Words.{App, app_of, new_app, with_rule, with_subcommand}
@@ -19,5 +19,6 @@ returns c =
     let six = c.in_ok-subcommand-6.ensures.shape c.new-7.ensures.local ∙ ap₂ with_subcommand five (ap (λ (a : App). a.top) c.new-7.ensures.app) in
     let seven = c.in_ok-subcommand-7.ensures.shape c.new-8.ensures.local ∙ ap₂ with_subcommand six (ap (λ (a : App). a.top) c.new-8.ensures.app) in
     let eight = c.in_ok-subcommand-8.ensures.shape c.new-9.ensures.local ∙ ap₂ with_subcommand seven (ap (λ (a : App). a.top) c.new-9.ensures.app) in
-    IfOk-weaker c.subcommand-9.result _ _
-    (λ command adds. adds.shape free ∙ ap₂ with_subcommand eight (ap (λ (a : App). a.top) rounds)) c.subcommand-9.ensures
+    let nine = c.in_ok-subcommand-9.ensures.shape c.new-10.ensures.local ∙ ap₂ with_subcommand eight (ap (λ (a : App). a.top) c.new-10.ensures.app) in
+    IfOk-weaker c.subcommand-10.result _ _
+    (λ command adds. adds.shape free ∙ ap₂ with_subcommand nine (ap (λ (a : App). a.top) rounds)) c.subcommand-10.ensures

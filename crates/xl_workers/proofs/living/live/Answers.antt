@@ -1,5 +1,5 @@
--- the pass begins with nothing known; all ids are submitted before the links, or one has no turn; and the joined pass has
--- seen all that the heartbeat and each worker had
+-- the pass begins with nothing known, and if there are too few threads it ends so; all ids are submitted before the links,
+-- or one has no turn; and the joined pass has seen all that the heartbeat and each worker had
 use Rattle.std.proofs.Common.{◌≡◌, ◌≤◌, ◌^◌, ℕ, List, length, map, refl, sym, ap, ◌∙◌, subst, arith}
 use Rattle.std.proofs.lemmas.List.{length-map}
 use Rattle.std.specs.Prelude.{IsSome}
@@ -19,13 +19,13 @@ use Rattle.xl_workers.specs.Serving.{IsReady, AreReady, HaveServed}
 use Rattle.xl_workers.specs.Joining.{joined_all, knows, IsHis, HasSeen}
 use Rattle.xl_workers.specs.Submits.{Submitted, SubmittedFront}
 use Rattle.xl_workers.specs.Sharing.{setting}
-use Rattle.xl_workers.specs.Runs.{doing}
+use Rattle.xl_workers.specs.Runs.{doing_of}
 use Rattle.xl_workers.specs.Working.{Worked, Lived}
 use Rattle.xl_workers.proofs.Pairs.{all_of_map, index_all, put_back}
 use Rattle.xl_workers.proofs.Links.{same_members, all_front}
 use Rattle.xl_workers.proofs.Starts.{enough_left, are_all, same_peers, same_mine, same_seen, worked_from}
 use Rattle.xl_workers.proofs.Shared.{Joined, all_his, worked}
-use Rattle.xl_workers.proofs.Lives.{lived, lived_front, lives_ran, lives_none, lives_unlinked, still_whole}
+use Rattle.xl_workers.proofs.Lives.{lived, lived_unstarted, lived_front, lives_ran, lives_none, lives_unlinked, still_whole}
 use Rattle.xl_workers.proofs.living.live.Goals as goal
 
 pub split-first-requires-clause-share : goal.split-first-requires-clause-share
@@ -72,6 +72,18 @@ hire-first-requires-clause-share g c =
     enough_left (length peers) mid (known c.split-first.result.0) (still_whole s ids old mid c.requires.new sub)
     c.split-first.ensures.first few
 
+pub returns-then-not-can_run-clause-lived : goal.returns-then-not-can_run-clause-lived
+returns-then-not-can_run-clause-lived g c =
+    let start = start_of c.args.store.now in
+    let turns = turns_of c.args.store.now in
+    let may = g.C.Clock.may_give c.args.host.now.clock.now in
+    let gives = g.H.Hub.gives c.args.hub.now in
+    let s = setting start turns may gives in
+    let hub = hub_seen (g.H.Hub.faults c.args.hub.now) (g.H.Hub.asked c.args.hub.now) in
+    let o = output (g.O.Sink.held c.args.sink.now) (g.O.Sink.faults c.args.sink.now) in
+    let d = doing_of c.args.plan.submits.items (map target_of c.args.plan.contacts.items) c.args.plan.pulse hub hub o o in
+    lived_unstarted s d (known c.args.pass) c.requires.new refl refl
+
 pub returns-in-Err-clause-lived : goal.returns-in-Err-clause-lived
 returns-in-Err-clause-lived g c =
     let start = start_of c.args.store.now in
@@ -83,7 +95,7 @@ returns-in-Err-clause-lived g c =
     let targets = map target_of c.args.plan.contacts.items in
     let old_hub = hub_seen (g.H.Hub.faults c.args.hub.now) (g.H.Hub.asked c.args.hub.now) in
     let o = output (g.O.Sink.held c.args.sink.now) (g.O.Sink.faults c.args.sink.now) in
-    let d = doing ids targets c.args.plan.pulse old_hub old_hub o o in
+    let d = doing_of ids targets c.args.plan.pulse old_hub old_hub o o in
     let old = known c.args.pass in
     let mid = known c.submit_all.new.pass in
     let front = subst (λ (l : List TxId). SubmittedFront start turns may old l c.in-Err.end mid) c.deref.ensures.value
@@ -107,7 +119,7 @@ returns-in-Err-NetFault-clause-lived g c =
     let sub = subst (λ (l : List TxId). Submitted start may old l mid) c.deref.ensures.value c.in-Ok.ensures.all in
     let share = still_whole s ids old mid c.requires.new sub in
     let o = output (g.O.Sink.held c.args.sink.now) (g.O.Sink.faults c.args.sink.now) in
-    let d = doing ids targets c.args.plan.pulse old_hub new_hub o o in
+    let d = doing_of ids targets c.args.plan.pulse old_hub new_hub o o in
     lived s d old mid mid end.NetFault c.requires.new sub
     (lives_unlinked s d mid share refl c.in-Err-NetFault.ensures.front
     (c.in-Err-NetFault.ensures.failed c.in-Err-NetFault.field-0-is))
@@ -128,7 +140,7 @@ returns-in-Err-OutOfMemory-clause-lived g c =
     let sub = subst (λ (l : List TxId). Submitted start may old l mid) c.deref.ensures.value c.in-Ok.ensures.all in
     let share = still_whole s ids old mid c.requires.new sub in
     let o = output (g.O.Sink.held c.args.sink.now) (g.O.Sink.faults c.args.sink.now) in
-    let d = doing ids targets c.args.plan.pulse old_hub new_hub o o in
+    let d = doing_of ids targets c.args.plan.pulse old_hub new_hub o o in
     lived s d old mid mid end.OutOfMemory c.requires.new sub
     (lives_none s d mid share refl c.in-Err-OutOfMemory.ensures.front)
 
@@ -148,7 +160,7 @@ returns-in_default-clause-lived g c =
     let sub = subst (λ (l : List TxId). Submitted start may old l mid) c.deref.ensures.value c.in-Ok.ensures.all in
     let share = still_whole s ids old mid c.requires.new sub in
     let o = output (g.O.Sink.held c.args.sink.now) (g.O.Sink.faults c.args.sink.now) in
-    let d = doing ids targets c.args.plan.pulse old_hub new_hub o o in
+    let d = doing_of ids targets c.args.plan.pulse old_hub new_hub o o in
     lived s d old mid mid end.OutOfMemory c.requires.new sub
     (lives_none s d mid share refl (all_front old_hub new_hub targets c.in-Ok-open_links.ensures.asked))
 
@@ -248,9 +260,13 @@ returns-clause-lived g c =
     (worked store may shows pulse now heart c.run-beats.new.pass c.join-one.result
     all o1 o2 beats hired ended j gives told)) in
     let by_targets = subst (λ (ms : List ℕ). Worked s pulse ms mid o1 beats (known all) o2) members by_peers in
-    lived s (doing ids targets pulse old_hub new_hub o1 o3) old mid new (end.Ran beats last) c.requires.new sub
+    lived s (doing_of ids targets pulse old_hub new_hub o1 o3) old mid new (end.Ran beats last) c.requires.new sub
     (lives_ran s pulse targets ids old_hub new_hub mid (known all) new o1 o2 o3 beats last
     c.in-Ok-open_links.ensures.asked by_targets c.take_last-last.ensures.last)
+
+pub returns-then-not-can_run-clause-told : goal.returns-then-not-can_run-clause-told
+returns-then-not-can_run-clause-told g c =
+    untold g.D.Board.show_gives (start_of c.args.store.now) c.args.bulletin.now (known c.args.pass).seen
 
 pub returns-in-Err-clause-told : goal.returns-in-Err-clause-told
 returns-in-Err-clause-told g c =

@@ -4,7 +4,7 @@ use Rattle.xl_tags.specs.Rings.{Ring, key_of}
 use Rattle.xl_wire.specs.Lengths.{longest_frame}
 use Rattle.xl_core.specs.Answers.{given_in}
 use Rattle.xl_core.specs.Core.{CoreReply, all_frames}
-use Rattle.xl_core.specs.Queues.{fitting}
+use Rattle.xl_core.specs.Queues.{count_fitting}
 use Rattle.xl_world.proofs.Doing.{peer_of}
 use Rattle.xl_world.proofs.Drains.{none_in_front}
 use Rattle.xl_world.proofs.draining.drain_once.Goals as goal
@@ -14,7 +14,7 @@ drain_blank-count-requires-clause-peer c = subst (λ (ring : Ring). IsSome (key_
 
 pub returns-then-count-eq0-clause-none : goal.returns-then-count-eq0-clause-none
 returns-then-count-eq0-clause-none c = λ _.
-    none_in_front (fitting (all_frames c.args.core.now c.args.to) longest_frame) (all_frames c.args.core.now c.args.to) (c.drain_blank-count.ensures.nothing.0 c.if-count-eq0.true)
+    none_in_front (count_fitting (all_frames c.args.core.now c.args.to) longest_frame) (all_frames c.args.core.now c.args.to) (c.drain_blank-count.ensures.nothing.0 c.if-count-eq0.true)
 
 pub returns-then-is_idle-clause-core : goal.returns-then-is_idle-clause-core
 returns-then-is_idle-clause-core c = sym (ap (λ (r : CoreReply). r.core) (c.is_idle.ensures.idle c.if-is_idle.true longest_frame))

@@ -1,44 +1,17 @@
-use Rattle.std.proofs.Common.{◌≤◌, ◌∙◌, ℕ, List, ap, arith, length, length-take, subst, sym, take, take_all}
+use Rattle.std.proofs.Common.{◌≡◌, ◌∙◌, ap, subst, take, true}
 use Rattle.xl_wire.specs.declared.body.Body.{Body}
-use Rattle.xl_wire.specs.Frames.{Spells, raw_of}
+use Rattle.xl_wire.specs.Frames.{raw_of}
 use Rattle.xl_wire.specs.Raws.{SpellsRaw}
-use Rattle.xl_wire.specs.Writing.{body_length}
 use Rattle.xl_tags.specs.Rings.{schedule_ring}
-use Rattle.xl_core.specs.Hearing.{bytes_as_sealed}
-use Rattle.xl_core.specs.Sending.{blank_frame}
-use Rattle.xl_core.proofs.SealingLaws.{written}
-use Rattle.xl_world.specs.Schedule.{lied_body}
-use Rattle.xl_world.proofs.Liars.{heard_sealed}
-use Rattle.xl_world.proofs.Lying.{lied_short}
+use Rattle.xl_core.specs.Sending.{blank_frame, has_spelling, sealed_bytes}
 use Rattle.xl_world.proofs.lie.put_blank_lie.Goals as goal
-use Rattle.xl_world.proofs.lie.put_blank_lie.Goals.{After-encode}
-
-pub encode-requires : goal.encode-requires
-encode-requires c = omega (arith, lied_short c.args.lie.now c.requires.sayable, ap body_length c.body.ensures, c.requires.room)
-
-pub returns-clause-long : goal.returns-clause-long
-returns-clause-long c = omega (arith, c.encode.ensures.long)
-
-pub returns-clause-within : goal.returns-clause-within
-returns-clause-within c =
-    omega (arith, c.encode.ensures.long, c.encode.auto.room, lied_short c.args.lie.now c.requires.sayable, ap body_length c.body.ensures, c.requires.room)
-
--- what is written is the blank frame
-spelled : (c : After-encode) → SpellsRaw (raw_of (blank_frame c.args.from c.args.to (lied_body c.args.lie.now))) (take c.encode.result c.encode.new.room)
-spelled c =
-    let n : ℕ = c.encode.result in
-    let front : List ℕ = take n c.encode.new.room in
-    let short : length front ≤ n = omega (arith, length-take n c.encode.new.room) in
-    written c.get.result c.args.from c.get-2.result c.args.to n (lied_body c.args.lie.now) front
-    c.get.ensures.value c.get-2.ensures.value short
-    (subst (Spells (blank_frame c.get.result c.get-2.result (lied_body c.args.lie.now))) (sym (take_all n front short))
-    (subst (λ (body : Body). Spells (blank_frame c.get.result c.get-2.result body) front) c.body.ensures c.encode.ensures.spelled))
 
 pub returns-clause-spelled : goal.returns-clause-spelled
-returns-clause-spelled c = spelled ((goal.at.returns-clause-spelled c).After-encode)
+returns-clause-spelled c =
+    subst (λ (body : Body). SpellsRaw (raw_of (blank_frame c.args.from c.args.to body)) (take c.put_blank.result c.put_blank.new.room)) c.body.ensures c.put_blank.ensures.spelled
 
 pub returns-clause-heard : goal.returns-clause-heard
-returns-clause-heard c =
-    let s = spelled ((goal.at.returns-clause-heard c).After-encode) in
-    ap (bytes_as_sealed (schedule_ring c.args.to)) s.spelling
-    ∙ heard_sealed c.args.from c.args.to (lied_body c.args.lie.now) (omega arith, omega arith) (omega arith, omega arith) s.frame
+returns-clause-heard c = c.put_blank.ensures.heard ∙ ap (sealed_bytes (schedule_ring c.args.from) c.args.from c.args.to) c.body.ensures
+
+pub returns-clause-has : goal.returns-clause-has
+returns-clause-has c = subst (λ (body : Body). has_spelling c.args.from c.args.to body ≡ true) c.body.ensures c.put_blank.ensures.has

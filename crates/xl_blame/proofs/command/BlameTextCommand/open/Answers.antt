@@ -1,5 +1,5 @@
 -- a text says something at each of its ends, and what is to blame is found behind the last line
-use Rattle.std.proofs.Common.{ℕ, List, ap, ◌∙◌}
+use Rattle.std.proofs.Common.{ap, ◌∙◌}
 use Rattle.xl_lines.specs.Told.{told_of}
 use Rattle.xl_lines.specs.Soon.{told_soon}
 use Rattle.xl_lines.proofs.Aloud.{told_at-aloud}

@@ -1,5 +1,5 @@
 -- what the line comes to is told of the journals
-use Rattle.std.proofs.Common.{◌≡◌, ◌∙◌, [], ap, sym}
+use Rattle.std.proofs.Common.{◌∙◌, [], ap, sym}
 use Rattle.xl_lines.specs.Rules.{Step, goes_on}
 use Rattle.xl_shown.specs.Courses.{came_given}
 use Rattle.xl_blame.specs.Blaming.{Blaming, journal_step, with_line}

@@ -4,7 +4,7 @@ use Rattle.xl_wire.specs.Heads.{parts}
 use Rattle.xl_wire.specs.Raws.{raw_frame}
 use Rattle.xl_core.specs.declared.refusal.Refusal.TheVariants.{Frame, Short}
 use Rattle.xl_core.specs.Hearing.{bytes_with, spoken_in}
-use Rattle.xl_core.specs.Node.{Node, at_moment, bytes_reply, frame_refusal, refusing}
+use Rattle.xl_core.specs.Node.{Node, at_moment, bytes_reply, frame_refusal, refusing_reply}
 use Rattle.xl_core.proofs.Frames.{nothing_heard}
 use Rattle.xl_core.proofs.Heard.{no_frame, not_itself, short, stays_refused, stays_short}
 use Rattle.xl_core.proofs.node.Node.hear.Goals as goal
@@ -25,7 +25,7 @@ returns-in-Need-clause-exact g c =
     let at = sym c.split.ensures.exact ∙ ap parts c.in-Need.is in
     let is : Err (Short c.in-Need.lack) ≡ spoken_in m.keys m.list.members (bytes_with c.args.tags m.keys bytes) =
     sym (ap (spoken_in m.keys m.list.members) (stays_short c.args.tags m.keys bytes c.in-Need.lack at) ∙ short m.keys m.list.members bytes c.in-Need.lack at) in
-    ap (λ (x : Node). refusing x (Short c.in-Need.lack)) c.advance.ensures ∙ (nothing_heard m (bytes_with c.args.tags m.keys bytes) (Short c.in-Need.lack) is).1
+    ap (λ (x : Node). refusing_reply x (Short c.in-Need.lack)) c.advance.ensures ∙ (nothing_heard m (bytes_with c.args.tags m.keys bytes) (Short c.in-Need.lack) is).1
 
 pub returns-in-Need-clause-refused : goal.returns-in-Need-clause-refused
 returns-in-Need-clause-refused g c =
@@ -43,7 +43,7 @@ returns-in-Refused-clause-exact g c =
     let at = sym c.split.ensures.exact ∙ ap parts c.in-Refused.is in
     let is : Err (Frame c.in-Refused.why) ≡ spoken_in m.keys m.list.members (bytes_with c.args.tags m.keys bytes) =
     sym (ap (spoken_in m.keys m.list.members) (stays_refused c.args.tags m.keys bytes c.in-Refused.why at) ∙ no_frame m.keys m.list.members bytes c.in-Refused.why at) in
-    ap (λ (x : Node). refusing x (Frame c.in-Refused.why)) c.advance.ensures ∙ (nothing_heard m (bytes_with c.args.tags m.keys bytes) (Frame c.in-Refused.why) is).1
+    ap (λ (x : Node). refusing_reply x (Frame c.in-Refused.why)) c.advance.ensures ∙ (nothing_heard m (bytes_with c.args.tags m.keys bytes) (Frame c.in-Refused.why) is).1
 
 pub returns-in-Refused-clause-refused : goal.returns-in-Refused-clause-refused
 returns-in-Refused-clause-refused g c =

@@ -3,13 +3,13 @@ use Rattle.std.proofs.Common.{◌≡◌, ◌∙◌, ◌-◌, length, ap, sym, su
 use Rattle.xl_core.specs.Draining.{node_for}
 use Rattle.xl_core.specs.Sending.{keys_for}
 use Rattle.xl_core.specs.Node.{Node}
-use Rattle.xl_core.specs.Queues.{fitting}
+use Rattle.xl_core.specs.Queues.{count_fitting}
 use Rattle.xl_core.proofs.Greeted.{none_next, puts_next, puts_none}
 use Rattle.xl_core.proofs.node.Node.put_next.Goals as goal
 
 pub returns-in_err-ledger-clause-none : goal.returns-in_err-ledger-clause-none
 returns-in_err-ledger-clause-none g c = λ _. (
-  ap (λ fs. fitting fs (length c.args.room.now - c.args.at)) (none_next (node_for c.args.tags c.args.self.now) c.args.to c.args.greeting.now (sym c.next_on_chain.ensures.value ∙ c.in_err-ledger.was)),
+  ap (λ fs. count_fitting fs (length c.args.room.now - c.args.at)) (none_next (node_for c.args.tags c.args.self.now) c.args.to c.args.greeting.now (sym c.next_on_chain.ensures.value ∙ c.in_err-ledger.was)),
   refl,
 )
 

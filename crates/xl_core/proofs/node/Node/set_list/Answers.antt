@@ -6,7 +6,7 @@ use Rattle.xl_validations.specs.declared.row.Row.{Row}
 use Rattle.xl_validations.specs.Rows.{relisted}
 use Rattle.xl_validations.proofs.Relisting.{members_relisted}
 use Rattle.xl_core.specs.declared.last.LastReport.{LastReport}
-use Rattle.xl_core.specs.Lasts.{later}
+use Rattle.xl_core.specs.Lasts.{last_after}
 use Rattle.xl_core.specs.Node.{Node, arisen_in}
 use Rattle.xl_core.specs.Rest.{IsReady, node_seen}
 use Rattle.xl_core.proofs.Relisting.{list_ready}
@@ -25,7 +25,7 @@ invariant_of-self g c =
     let rows : List Row = c.relist-2.new.self.rows in
     let report = c.arisen-report.result in
     let report_is = c.arisen-report.ensures ∙ ap (arisen_in list.quorum rows) c.over_another_list-self-inside.ensures in
-    let last_is = c.note.ensures ∙ ap (λ (l : LastReport). later l report) c.over_another_list-self-inside.ensures in (
+    let last_is = c.note.ensures ∙ ap (λ (l : LastReport). last_after l report) c.over_another_list-self-inside.ensures in (
       subst (λ (l : LastReport). IsReady (record n { list = list; rows = rows; round = c.relist.new.self; last = l })) (sym last_is)
           (list_ready n list rows c.relist.new.self report c.self.invariant.0 c.members-members.ensures.valid
           (subst (λ (m : Node). HasKeys m.keys list.members) (sym c.self.view_is) c.requires.keyed)

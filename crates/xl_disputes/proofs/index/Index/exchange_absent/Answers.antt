@@ -2,6 +2,7 @@
 use Rattle.std.proofs.Common.{◌≡◌, ◌<◌, ◌∙◌, length, sym, subst, ap, arith}
 use Rattle.xl_disputes.specs.Tallies.{held_by, exchanged, IsWithin, IsFitting}
 use Rattle.xl_disputes.specs.Rows.{tally_of, with_exchange, IsAbsent}
+use Rattle.xl_disputes.specs.declared.rows.TheConstants.{ROWS}
 use Rattle.xl_disputes.proofs.Finding.{tally_absent, place_within, insert_exact, nothing_exact, has_room, is_gone, is_kept, from_exact}
 use Rattle.xl_disputes.proofs.index.Index.exchange_absent.Goals as goal
 use Rattle.xl_disputes.proofs.index.Index.exchange_absent.Goals.{After-none, After-insert}
@@ -26,7 +27,7 @@ insert-requires-clause-room c =
     has_room c.args.id c.args.from c.args.to c.self.inside.rows c.args.place c.self.invariant (absent (goal.at.insert-requires-clause-room c).After-none) c.none.result c.exchange-tally.result
     c.none.ensures c.exchange-tally.ensures
     (subst (λ rows. IsWithin c.args.from (tally_of rows c.args.id)) (sym c.self.view_is) c.requires.within)
-    (subst (λ rows. held_by c.args.from ≡ 0 → length rows < 16640) (sym c.self.view_is) c.requires.room)
+    (subst (λ rows. held_by c.args.from ≡ 0 → length rows < ROWS) (sym c.self.view_is) c.requires.room)
 
 pub insert-requires-clause-within : goal.insert-requires-clause-within
 insert-requires-clause-within c =

@@ -5,6 +5,7 @@ use Rattle.std.proofs.lemmas.List.Sums.{fold_more}
 use Rattle.std.proofs.lemmas.List.Elements.{All-replicate}
 use Rattle.xl_base.specs.declared.ids.SetId.{SetId}
 use Rattle.xl_disputes.specs.Standings.{stand, with_one}
+use Rattle.xl_disputes.specs.declared.shares.TheConstants.{PLACES}
 use Rattle.xl_disputes.proofs.Weighing.{one_more}
 use Rattle.xl_disputes.proofs.shares.Shares.count_standings.Goals as goal
 
@@ -12,7 +13,7 @@ pub loop-position-init : goal.loop-position-init
 loop-position-init c = record {
   counted = c.requires.none;
   places = ap length c.requires.none;
-  few = subst (All (λ weight. weight ≤ 0)) (sym c.requires.none) (All-replicate (λ weight. weight ≤ 0) 65 0 (omega arith));
+  few = subst (All (λ weight. weight ≤ 0)) (sym c.requires.none) (All-replicate (λ weight. weight ≤ 0) PLACES 0 (omega arith));
 }
 
 pub loop-position-preserved : goal.loop-position-preserved
@@ -20,7 +21,7 @@ loop-position-preserved c = record {
   counted =
       c.add_one.ensures ∙ ap (λ n. with_one n c.loop-position.weights) c.stand.ensures.value
       ∙ ap (with_one (stand c.args.self.now (get_or c.args.positions.now c.loop-position.position-index None))) c.loop-position.invariant.counted
-      ∙ sym (fold_more (λ (weights : List ℕ) (position : Option SetId). with_one (stand c.args.self.now position) weights) (replicate 65 0) c.args.positions.now c.loop-position.position-index None
+      ∙ sym (fold_more (λ (weights : List ℕ) (position : Option SetId). with_one (stand c.args.self.now position) weights) (replicate PLACES 0) c.args.positions.now c.loop-position.position-index None
       (omega (arith, c.loop-position-test.true)));
   places = c.add_one.array_long;
   few =

@@ -2,8 +2,8 @@
 use Rattle.std.proofs.Common.{◌≡◌, ◌<◌, ◌≤◌, Ok, Err, length, subst, sym}
 use Rattle.std.specs.Prelude.{Result, IfOk, IfErr, MatchResult}
 use Rattle.xl_flags.specs.declared.refusal.FlagRefusal.TheVariants.{TooMany}
-use Rattle.xl_flags.specs.Votes.{most_amendments, named}
-use Rattle.xl_flags.specs.Kept.{Kept, Past, Remembers, favored, kept_favored, with_rows}
+use Rattle.xl_flags.specs.Votes.{most_amendments, named_amendments}
+use Rattle.xl_flags.specs.Kept.{Kept, Past, Remembers, with_favor, kept_favored, with_rows}
 use Rattle.xl_flags.proofs.Favoring.{so_many, remembers_vote}
 use Rattle.xl_flags.proofs.flag_votes.FlagVotes.favor.Goals as goal
 
@@ -27,17 +27,17 @@ module _ {E : Type 0} where
 pub returns : goal.returns
 returns c = record {
   remembers = done_weaker (λ u. c.take_vote.new.self ≡ kept_favored c.args.member c.args.fee c.args.ids.now c.args.self.now)
-      (λ u. (past : Past) → Remembers c.args.self.now past → Remembers c.take_vote.new.self (favored past c.args.member c.args.fee c.args.ids.now))
+      (λ u. (past : Past) → Remembers c.args.self.now past → Remembers c.take_vote.new.self (with_favor past c.args.member c.args.fee c.args.ids.now))
       (λ e. c.take_vote.new.self ≡ c.args.self.now)
-      (λ u kept past is. subst (λ (k : Kept). Remembers k (favored past c.args.member c.args.fee c.args.ids.now)) (sym kept)
+      (λ u kept past is. subst (λ (k : Kept). Remembers k (with_favor past c.args.member c.args.fee c.args.ids.now)) (sym kept)
       (remembers_vote past c.args.member c.args.fee c.args.ids.now c.take_vote.ensures.first c.take_vote.ensures.last c.args.self.now is))
       c.take_vote.result c.take_vote.ensures.kept;
   many = err_weaker (λ e. e ≡ TooMany → most_amendments < length (with_rows c.args.self.now.amendments c.args.ids.now))
-      (λ e. e ≡ TooMany → (past : Past) → Remembers c.args.self.now past → most_amendments < length (named (favored past c.args.member c.args.fee c.args.ids.now).favors))
+      (λ e. e ≡ TooMany → (past : Past) → Remembers c.args.self.now past → most_amendments < length (named_amendments (with_favor past c.args.member c.args.fee c.args.ids.now).favors))
       (λ e many too past is. subst (λ n. most_amendments < n) (so_many past c.args.member c.args.fee c.args.ids.now c.take_vote.ensures.first c.take_vote.ensures.last c.args.self.now is) (many too))
       c.take_vote.result c.take_vote.ensures.many;
   few = ok_weaker (λ u. length (with_rows c.args.self.now.amendments c.args.ids.now) ≤ most_amendments)
-      (λ u. (past : Past) → Remembers c.args.self.now past → length (named (favored past c.args.member c.args.fee c.args.ids.now).favors) ≤ most_amendments)
+      (λ u. (past : Past) → Remembers c.args.self.now past → length (named_amendments (with_favor past c.args.member c.args.fee c.args.ids.now).favors) ≤ most_amendments)
       (λ u few past is. subst (λ n. n ≤ most_amendments) (so_many past c.args.member c.args.fee c.args.ids.now c.take_vote.ensures.first c.take_vote.ensures.last c.args.self.now is) few)
       c.take_vote.result c.take_vote.ensures.few;
   kept = ok_part (λ u. c.take_vote.new.self ≡ kept_favored c.args.member c.args.fee c.args.ids.now c.args.self.now) (λ e. c.take_vote.new.self ≡ c.args.self.now)

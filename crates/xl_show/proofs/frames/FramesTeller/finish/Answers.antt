@@ -3,14 +3,14 @@ use Rattle.std.proofs.Common.{◌≡◌, ◌++◌, [], false, ap, arith, ◌∙�
 use Rattle.std.proofs.lemmas.Result.{IfOk-weaker}
 use Rattle.xl_lines.proofs.Runs.{write_from, ok_exact}
 use Rattle.xl_lines.proofs.Telling.{tells_then, tells_front, tells_less, tells_all_then, tells_all_refused, all_from, front_from, less_from}
-use Rattle.xl_show.specs.Shown.{ending, told_from}
+use Rattle.xl_show.specs.Shown.{told_at_end, told_from}
 use Rattle.xl_show.proofs.Telling.{told_end}
 use Rattle.xl_show.proofs.frames.FramesTeller.finish.Goals as goal
 use Rattle.xl_show.proofs.frames.FramesTeller.finish.Goals.{In-Lacks}
 use Rattle.xl_wire.specs.Frames.{decoded_of}
 
 -- no more bytes come
-ends : (g : _) (c : In-Lacks g) → told_from c.advance.new.self.place c.advance.new.self.count (c.advance.new.self.begun.items ++ []) ≡ ending false c.advance.new.self.place c.advance.new.self.count c.in-Lacks.lack c.advance.new.self.begun.items
+ends : (g : _) (c : In-Lacks g) → told_from c.advance.new.self.place c.advance.new.self.count (c.advance.new.self.begun.items ++ []) ≡ told_at_end false c.advance.new.self.place c.advance.new.self.count c.in-Lacks.lack c.advance.new.self.begun.items
 ends g c =
     let new = c.advance.new.self in
     let follows = rw c.in-Lacks.is at c.in_ok-advance.ensures.follows in

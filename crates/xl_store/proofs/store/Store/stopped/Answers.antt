@@ -10,7 +10,7 @@ use Rattle.xl_store.proofs.store.Store.stopped.Goals as goal
 pub finish-requires-clause-ends : goal.finish-requires-clause-ends
 finish-requires-clause-ends g c =
     let event : CoreEvent = Stopped in
-    let b = c.in_ok-turn.ensures.begun in
+    let b = c.in_ok-turn.ensures.begun event c.in_ok-blank.ensures.page c.in_ok-blank.ensures.node in
     record {
       found = c.in_ok-turn.turn.object;
       entry = entry_of event None;
@@ -24,7 +24,7 @@ finish-requires-clause-ends g c =
 
 pub returns-clause-called : goal.returns-clause-called
 returns-clause-called g c =
-    let b = c.in_ok-turn.ensures.begun in
+    let b = c.in_ok-turn.ensures.begun Stopped c.in_ok-blank.ensures.page c.in_ok-blank.ensures.node in
     called g.K.Keeper.held g.K.Keeper.saves g.K.Keeper.faults g.K.Keeper.save_gives c.args.self.now c.args.pass.now c.finish.new.pass
     Stopped None _ c.in_ok-turn.turn c.in_ok-turn.page (on c.in_ok-turn.page)
     c.deref.result.now c.deref.ensures b b.written c.finish.ensures.known c.finish.ensures.legal

@@ -6,7 +6,7 @@ use Rattle.xl_world.specs.declared.place.Fate.TheVariants.{Unwritten}
 use Rattle.xl_world.specs.declared.place.Disk.{Disk}
 use Rattle.xl_world.specs.declared.place.Place.{Place}
 use Rattle.xl_world.specs.Disk.{answer_of, found as found_number, left_by, restored}
-use Rattle.xl_world.specs.Seen.{acted_at, deed_event, disk_in, noted, put_again, with_places}
+use Rattle.xl_world.specs.Seen.{acted_at, deed_event, disk_in, after_note, put_again, with_places}
 use Rattle.xl_world.specs.Schedule.{steps_at, told_in}
 use Rattle.xl_world.specs.World.{World, Step, place_at, run}
 use Rattle.xl_sched.specs.declared.event.What.TheVariants.{Cut}
@@ -76,9 +76,9 @@ returns-in_ok-settle-in-None-clause-world c =
     let i = c.asked_by-node.result.0 in
     let a = c.happens.new.answer in
     let kept : Disk = c.index_mut-place.result.now.disk in
-    let settled : v ≡ noted (with_places w (acted_at i (event d) Unwritten w.places)) i a =
+    let settled : v ≡ after_note (with_places w (acted_at i (event d) Unwritten w.places)) i a =
     c.in_ok-settle-in-None.ensures.world
-    ∙ (ap (λ (u : World). noted (with_places u (after d)) i a) c.self.view_is ∙ ap (λ (xs : List Place). noted (with_places w xs) i a) (acted d).places) in
+    ∙ (ap (λ (u : World). after_note (with_places u (after d)) i a) c.self.view_is ∙ ap (λ (xs : List Place). after_note (with_places w xs) i a) (acted d).places) in
     let uncut =
     cuts_none w v at c.args.new c.args.ask.now i (event d) Unwritten kept a c.asked_by-node.ensures.node (c.asked_by-node.ensures.deed i) (held d) (acted d).answer c.in-None.is
     (λ p from. deed_unsent p.core i c.asked_by-node.result.1 (answer_of p.disk Unwritten) from) settled in
@@ -96,9 +96,9 @@ returns-in_ok-settle-in-None-clause-told c =
     let i = c.asked_by-node.result.0 in
     let a = c.happens.new.answer in
     let kept : Disk = c.index_mut-place.result.now.disk in
-    let settled : v ≡ noted (with_places w (acted_at i (event d) Unwritten w.places)) i a =
+    let settled : v ≡ after_note (with_places w (acted_at i (event d) Unwritten w.places)) i a =
     c.in_ok-settle-in-None.ensures.world
-    ∙ (ap (λ (u : World). noted (with_places u (after d)) i a) c.self.view_is ∙ ap (λ (xs : List Place). noted (with_places w xs) i a) (acted d).places) in
+    ∙ (ap (λ (u : World). after_note (with_places u (after d)) i a) c.self.view_is ∙ ap (λ (xs : List Place). after_note (with_places w xs) i a) (acted d).places) in
     let uncut =
     cuts_none w v at c.args.new c.args.ask.now i (event d) Unwritten kept a c.asked_by-node.ensures.node (c.asked_by-node.ensures.deed i) (held d) (acted d).answer c.in-None.is
     (λ p from. deed_unsent p.core i c.asked_by-node.result.1 (answer_of p.disk Unwritten) from) settled in

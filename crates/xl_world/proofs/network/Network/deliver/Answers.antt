@@ -1,4 +1,4 @@
-use Rattle.std.proofs.Common.{rules, ◌≡◌, ◌++◌, ◌∙◌, ℕ, List, Option, Some, None, ap, append-nil, arith, length, set, subst, sym, take}
+use Rattle.std.proofs.Common.{rules, ◌≡◌, ◌++◌, ◌∙◌, ℕ, List, Option, Some, None, ap, append-nil, arith, length, set, subst, sym}
 use Rattle.std.specs.Prelude.{◌==◌, OnOk, position, slice_get}
 use Rattle.xl_core.specs.declared.event.CoreEvent.{CoreEvent}
 use Rattle.xl_core.specs.declared.event.CoreEvent.TheVariants.{Frame}
@@ -11,84 +11,73 @@ use Rattle.xl_world.specs.Disk.{answer_of}
 use Rattle.xl_world.specs.Schedule.{delivery_of, told_in}
 use Rattle.xl_world.specs.Seen.{with_forged}
 use Rattle.xl_world.specs.World.{World, place_at, run}
-use Rattle.xl_tags.specs.Rings.{schedule_ring}
-use Rattle.xl_core.specs.Hearing.{bytes_as_sealed}
-use Rattle.xl_world.proofs.Acted.{IsActed, IsFound, found_in, absent, absent_stays, absent_told, acted_ran, acted_rest, acted_told, found_acted, found_place}
+use Rattle.xl_world.proofs.Acted.{IsActed, IsFound, found_in, absent, absent_stays, absent_told, acted_ran, acted_rest, acted_told, found_acted, found_number, found_place}
 use Rattle.xl_world.proofs.Acting.{sent_ran}
 use Rattle.xl_world.proofs.CoreSteps.{frame_plain}
 use Rattle.xl_world.proofs.Places.{found_within}
 use Rattle.xl_world.specs.Worlds.{network_seen}
 use Rattle.xl_world.proofs.Growing.{grows_from}
 use Rattle.xl_world.proofs.network.Network.deliver.Goals as goal
-use Rattle.xl_world.proofs.network.Network.deliver.Goals.{After-happens}
+use Rattle.xl_world.proofs.network.Network.deliver.Goals.{After-hears_sent}
 
--- what is kept of it
-abbrev kept : After-happens → List ℕ
-kept c = take c.put-length.result c.deref-2.result.now
-
-abbrev event : After-happens → CoreEvent
-event c = Frame c.args.at (bytes_as_sealed (schedule_ring c.to-to.result) (kept c))
+abbrev event : After-hears_sent → CoreEvent
+event c = Frame c.args.at c.in-Some.frame.bytes
 
 -- the places after it
-abbrev after : After-happens → List Place
-after c = set c.self.inside.places.items c.in-Some-position_of.k c.happens.new.self
+abbrev after : After-hears_sent → List Place
+after c = set c.self.inside.places.items c.in-Some-position_of.k c.hears_sent.new.self
 
 -- the frame is the sent one
-sent : (c : After-happens) → slice_get c.args.self.now.sent c.args.place ≡ Some c.in-Some.frame
+sent : (c : After-hears_sent) → slice_get c.args.self.now.sent c.args.place ≡ Some c.in-Some.frame
 sent c = ap (λ (w : World). slice_get w.sent c.args.place) (sym c.self.view_is) ∙ sym c.in-Some.ensures
 
--- and these are its bytes
-bytes : (c : After-happens) → bytes_as_sealed (schedule_ring c.to-to.result) (kept c) ≡ c.in-Some.frame.bytes
-bytes c =
-    ap (λ (m : ℕ). bytes_as_sealed (schedule_ring m) (kept c)) c.to-to.ensures
-    ∙ ap (λ (room : List ℕ). bytes_as_sealed (schedule_ring c.in-Some.frame.to) (take c.put-length.result room)) c.deref-2.ensures
-    ∙ sym (ap (λ (f : Sent). f.bytes) c.put-length.ensures.kept)
-
-found : (c : After-happens) → IsFound c.args.self.now (network_seen c.self.inside) c.to-to.result c.in-Some-position_of.k c.index_mut-receiver.result.now
+found : (c : After-hears_sent) → IsFound c.args.self.now (network_seen c.self.inside) c.to-to.result c.in-Some-position_of.k c.index_mut-receiver.result.now
 found c = found_in c.args.self.now (network_seen c.self.inside) c.to-to.result c.in-Some-position_of.k c.index_mut-receiver.result.now c.deref.result.now c.self.view_is c.in-Some-position_of.ensures c.deref.ensures.value c.index_mut-receiver.ensures.value
 
-acted : (c : After-happens) → IsActed c.args.self.now c.to-to.result (event c) Saved (after c) c.happens.new.answer
-acted c = found_acted c.args.self.now (network_seen c.self.inside) c.to-to.result c.in-Some-position_of.k c.index_mut-receiver.result.now (λ m. Frame c.args.at (bytes_as_sealed (schedule_ring m) (kept c))) Saved c.happens.new.self c.happens.new.answer (found c) c.happens.ensures.place c.happens.ensures.answer
+acted : (c : After-hears_sent) → IsActed c.args.self.now c.to-to.result (event c) Saved (after c) c.hears_sent.new.answer
+acted c = found_acted c.args.self.now (network_seen c.self.inside) c.to-to.result c.in-Some-position_of.k c.index_mut-receiver.result.now (λ m. event c) Saved c.hears_sent.new.self c.hears_sent.new.answer (found c) c.hears_sent.ensures.place c.hears_sent.ensures.answer
 
-pub happens-requires-clause-rested : goal.happens-requires-clause-rested
-happens-requires-clause-rested c =
+pub hears_sent-requires-clause-rested : goal.hears_sent-requires-clause-rested
+hears_sent-requires-clause-rested c =
     c.requires.rest.cores c.to-to.result _ (found_place c.args.self.now (network_seen c.self.inside) c.to-to.result c.in-Some-position_of.k c.index_mut-receiver.result.now (found_in c.args.self.now (network_seen c.self.inside) c.to-to.result c.in-Some-position_of.k c.index_mut-receiver.result.now c.deref.result.now c.self.view_is c.in-Some-position_of.ensures c.deref.ensures.value c.index_mut-receiver.ensures.value))
+
+pub hears_sent-requires-clause-mine : goal.hears_sent-requires-clause-mine
+hears_sent-requires-clause-mine c =
+    sym c.to-to.ensures
+    ∙ sym (found_number c.args.self.now (network_seen c.self.inside) c.to-to.result c.in-Some-position_of.k c.index_mut-receiver.result.now (found_in c.args.self.now (network_seen c.self.inside) c.to-to.result c.in-Some-position_of.k c.index_mut-receiver.result.now c.deref.result.now c.self.view_is c.in-Some-position_of.ensures c.deref.ensures.value c.index_mut-receiver.ensures.value))
 
 pub settle-requires : goal.settle-requires
 settle-requires c =
-    let d = (goal.at.settle-requires c).After-happens in record {
-      rested = acted_rest c.args.self.now c.to-to.result (event d) Saved (after d) c.happens.new.answer (acted d) c.requires.rest;
+    let d = (goal.at.settle-requires c).After-hears_sent in record {
+      rested = acted_rest c.args.self.now c.to-to.result (event d) Saved (after d) c.hears_sent.new.answer (acted d) c.requires.rest;
     }
 
 -- its delivery
-delivered : (c : After-happens) → event_steps c.args.self.now c.to-to.result (event c) Saved ≡ delivery_of c.args.self.now c.args.at (slice_get c.args.self.now.sent c.args.place)
-delivered c =
-    let w : World = c.args.self.now in
-    ap (λ (m : ℕ). event_steps w m (event c) Saved) c.to-to.ensures
-    ∙ (ap (λ (bs : List ℕ). event_steps w c.in-Some.frame.to (Frame c.args.at bs) Saved) (bytes c) ∙ ap (delivery_of w c.args.at) (sym (sent c)))
+delivered : (c : After-hears_sent) → event_steps c.args.self.now c.to-to.result (event c) Saved ≡ delivery_of c.args.self.now c.args.at (slice_get c.args.self.now.sent c.args.place)
+delivered c = ap (λ (m : ℕ). event_steps c.args.self.now m (event c) Saved) c.to-to.ensures ∙ ap (delivery_of c.args.self.now c.args.at) (sym (sent c))
 
 pub returns-clause-world : goal.returns-clause-world
 returns-clause-world c =
-    let d = (goal.at.returns-clause-world c).After-happens in
+    let d = (goal.at.returns-clause-world c).After-hears_sent in
     let w : World = c.args.self.now in
     let i : ℕ = c.to-to.result in
     subst (λ (v : World). OnOk c.settle.result (c.settle.new.self ≡ v))
-    (acted_ran w (network_seen c.self.inside) i (event d) Saved (after d) c.happens.new.answer c.self.view_is (acted d) (λ p from. (frame_plain p.core.node c.args.at (bytes_as_sealed (schedule_ring i) (kept d)) (answer_of p.disk Saved)).sent from)
+    (acted_ran w (network_seen c.self.inside) i (event d) Saved (after d) c.hears_sent.new.answer c.self.view_is (acted d) (λ p from. (frame_plain p.core.node c.args.at c.in-Some.frame.bytes (answer_of p.disk Saved)).sent from)
     ∙ (ap (λ steps. with_forged w.forged (run w steps)) (delivered d ∙ ap (delivery_of w c.args.at) (sent d))
     ∙ (sent_ran w c.args.at c.in-Some.frame c.args.place (sent d) ∙ ap (λ (o : Option Sent). run w (delivery_of w c.args.at o)) (sym (sent d)))))
     c.settle.ensures.world
 
 pub returns-clause-told : goal.returns-clause-told
 returns-clause-told c =
-    let d = (goal.at.returns-clause-told c).After-happens in
+    let d = (goal.at.returns-clause-told c).After-hears_sent in
     let w : World = c.args.self.now in
     subst (λ (os : List Outcome). OnOk c.settle.result (c.settle.new.told.items ≡ c.args.told.now.items ++ os))
-    (acted_told w c.to-to.result (event d) Saved (after d) c.happens.new.answer (acted d) ∙ ap (told_in w) (delivered d))
+    (acted_told w c.to-to.result (event d) Saved (after d) c.hears_sent.new.answer (acted d) ∙ ap (told_in w) (delivered d))
     c.settle.ensures.told
 
 pub returns-clause-grows : goal.returns-clause-grows
 returns-clause-grows c =
-    let d = (goal.at.returns-clause-grows c).After-happens in
+    let d = (goal.at.returns-clause-grows c).After-hears_sent in
     grows_from c.args.self.now (network_seen c.self.inside) c.settle.new.self (after d) c.self.view_is c.settle.ensures.grows
 
 -- nobody has its receiver's number

@@ -1,6 +1,6 @@
 use Rattle.std.proofs.Common.{◌∙◌, List, ℕ, ap, arith, length, refl, subst, sym}
 use Rattle.xl_world.specs.Sending.{Sent}
-use Rattle.xl_world.specs.World.{World, marked}
+use Rattle.xl_world.specs.World.{World, marked_world}
 use Rattle.xl_world.specs.Worlds.{network_seen}
 use Rattle.xl_world.proofs.Going.{IsDelivered, delivered_all, delivered_first, delivered_more}
 use Rattle.xl_world.proofs.Growing.{grows_on, grows_same, grows_so, longer_same}
@@ -27,7 +27,7 @@ returns-clause-world c =
     let with_traffic = λ (frames : List Sent) (mark : ℕ). let w : World = record (network_seen c.self-2.inside) { sent = frames; mark = mark } in w in
     ap (λ (frames : List Sent). with_traffic frames c.move_mark.new.self.mark) c.move_mark.ensures.frames
     ∙ (ap (with_traffic c.self-2.inside.traffic.frames) c.move_mark.ensures.mark
-    ∙ (ap marked c.self-2.view_is
+    ∙ (ap marked_world c.self-2.view_is
     ∙ (delivered_all c.args.self.now c.args.at c.args.told.now.items c.loop-place.place c.loop-place.self c.loop-place.told.items
     (omega (arith, c.loop-place-test.false, c.len-place-end.ensures, ap length c.sent.ensures, ap (λ (w : World). length w.sent) c.self.view_is)) c.loop-place.invariant.0).0))
 

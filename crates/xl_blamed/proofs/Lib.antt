@@ -1,0 +1,9 @@
+pub mod Showing
+pub mod Gathering
+pub mod Reading
+pub mod Growing
+pub mod Draining
+pub mod Given
+pub mod Agreeing
+pub mod Following
+pub mod Texts

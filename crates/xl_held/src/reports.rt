@@ -1,0 +1,122 @@
+// What a node last reported, and what it prefers.
+ghost use Rattle.std.specs.Prelude.{◌≡◌, ◌++◌, OnOk};
+ghost use Rattle.std.specs.String.{string_bytes};
+ghost use Rattle.xl_held.specs.Changes.{reports_changed, reports_opened, unless};
+ghost use Rattle.xl_held.specs.Lines.{prefers_line, report_line};
+ghost use Rattle.xl_noted.specs.Same.{is_same_last, is_same_report};
+ghost use Rattle.xl_noted.specs.Seen.{noted_seen};
+
+use crate::words::{push_last, push_report};
+use std::alloc::Global;
+use std::fmt::Write;
+use xl_base::{NodeNo, OutOfMemory};
+use xl_core::{LastReport, Node, Report};
+use xl_noted::{Noted, is_same_last as has_same_last, is_same_report as has_same_report};
+use xl_sched::Reader;
+use xl_trie::Trie;
+
+fn push_report_line(
+    alloc: Global,
+    text: &mut String,
+    reader: &Reader,
+    number: NodeNo,
+    last: &LastReport,
+) -> Result<(), OutOfMemory>
+    ensures { OnOk result (string_bytes text.new
+        ≡ string_bytes text.old ++ report_line reader.now.names number last.now) }
+{
+    let number = number.get();
+    write!(text, "held {number} report ")?;
+    push_last(alloc, text, reader, last)?;
+    text.push('\n')?;
+    Ok(())
+}
+
+fn push_prefers_line(
+    alloc: Global,
+    text: &mut String,
+    reader: &Reader,
+    number: NodeNo,
+    ledger: &Option<Report>,
+) -> Result<(), OutOfMemory>
+    ensures { OnOk result (string_bytes text.new
+        ≡ string_bytes text.old ++ prefers_line reader.now.names number ledger.now) }
+{
+    let number = number.get();
+    write!(text, "held {number} prefers ")?;
+    push_report(alloc, text, reader, ledger)?;
+    text.push('\n')?;
+    Ok(())
+}
+
+fn push_new_report(
+    alloc: Global,
+    text: &mut String,
+    reader: &Reader,
+    number: NodeNo,
+    before: &LastReport,
+    last: &LastReport,
+) -> Result<(), OutOfMemory>
+    ensures { OnOk result (string_bytes text.new ≡ string_bytes text.old
+        ++ unless (is_same_last before.now last.now) (report_line reader.now.names number last.now)) }
+{
+    if has_same_last(before, last) {
+        return Ok(());
+    }
+    push_report_line(alloc, text, reader, number, last)
+}
+
+fn push_new_preference(
+    alloc: Global,
+    text: &mut String,
+    reader: &Reader,
+    number: NodeNo,
+    before: &Option<Report>,
+    ledger: &Option<Report>,
+) -> Result<(), OutOfMemory>
+    ensures { OnOk result (string_bytes text.new ≡ string_bytes text.old
+        ++ unless (is_same_report before.now ledger.now) (prefers_line reader.now.names number ledger.now)) }
+{
+    if has_same_report(before, ledger) {
+        return Ok(());
+    }
+    push_prefers_line(alloc, text, reader, number, ledger)
+}
+
+/// What is new of its last report and of what it prefers.
+pub fn push_new_reports(
+    alloc: Global,
+    text: &mut String,
+    reader: &Reader,
+    number: NodeNo,
+    before: &Noted,
+    node: &Node<Trie>,
+) -> Result<(), OutOfMemory>
+    ensures { OnOk result (string_bytes text.new
+        ≡ string_bytes text.old ++ reports_changed reader.now.names number (noted_seen before.now) node.now) }
+{
+    push_new_report(alloc, text, reader, number, &before.last, node.last())?;
+    push_new_preference(
+        alloc,
+        text,
+        reader,
+        number,
+        &before.preferred,
+        &node.preferred(),
+    )
+}
+
+/// Its last report, and what it prefers.
+pub fn push_reports(
+    alloc: Global,
+    text: &mut String,
+    reader: &Reader,
+    number: NodeNo,
+    node: &Node<Trie>,
+) -> Result<(), OutOfMemory>
+    ensures { OnOk result (string_bytes text.new
+        ≡ string_bytes text.old ++ reports_opened reader.now.names number node.now) }
+{
+    push_report_line(alloc, text, reader, number, node.last())?;
+    push_prefers_line(alloc, text, reader, number, &node.preferred())
+}

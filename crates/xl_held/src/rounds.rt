@@ -1,0 +1,250 @@
+// A node's own part in its round.
+ghost use Rattle.std.specs.Prelude.{◌≡◌, ◌==◌, ◌&&◌, ◌++◌, OnOk};
+ghost use Rattle.std.specs.String.{string_bytes};
+ghost use Rattle.xl_held.specs.Changes.{agreement_changed, is_same_round, round_changed, round_opened, unless};
+ghost use Rattle.xl_held.specs.Lines.{agreement_line, pending_line, position_line, round_line, set_line};
+ghost use Rattle.xl_noted.specs.Same.{are_same_ids, is_same_proposal};
+ghost use Rattle.xl_noted.specs.Seen.{round_seen};
+ghost use Rattle.xl_rounds.specs.Positions.{count_agreeing, count};
+
+use crate::words::{push_mode, push_phase};
+use std::alloc::Global;
+use std::fmt::Write;
+use xl_base::{NodeNo, OutOfMemory, TxId};
+use xl_noted::{
+    NotedRound, are_same_ids as have_same_ids, is_same_mode, is_same_phase,
+    is_same_proposal as has_same_proposal,
+};
+use xl_rounds::Round;
+use xl_sched::Reader;
+use xl_told::{push_ids, push_proposal};
+use xl_wire::Proposal;
+
+fn push_round_line(text: &mut String, number: NodeNo, round: &Round) -> Result<(), OutOfMemory>
+    ensures { OnOk result (string_bytes text.new ≡ string_bytes text.old ++ round_line number round.now) }
+{
+    let (number, started) = (number.get(), round.started());
+    write!(text, "held {number} round ")?;
+    push_phase(text, round.phase())?;
+    text.push(' ')?;
+    push_mode(text, round.mode())?;
+    writeln!(text, " {started}")?;
+    Ok(())
+}
+
+fn push_position_line(
+    alloc: Global,
+    text: &mut String,
+    reader: &Reader,
+    number: NodeNo,
+    position: &Proposal,
+) -> Result<(), OutOfMemory>
+    ensures { OnOk result (string_bytes text.new
+        ≡ string_bytes text.old ++ position_line reader.now.names number position.now) }
+{
+    let number = number.get();
+    write!(text, "held {number} position ")?;
+    push_proposal(alloc, text, reader, position)?;
+    text.push('\n')?;
+    Ok(())
+}
+
+fn push_set_line(
+    alloc: Global,
+    text: &mut String,
+    reader: &Reader,
+    number: NodeNo,
+    ids: &[TxId],
+) -> Result<(), OutOfMemory>
+    ensures { OnOk result (string_bytes text.new
+        ≡ string_bytes text.old ++ set_line reader.now.names number ids.now) }
+{
+    let number = number.get();
+    write!(text, "held {number} set ")?;
+    push_ids(alloc, text, reader, ids)?;
+    text.push('\n')?;
+    Ok(())
+}
+
+fn push_pending_line(
+    alloc: Global,
+    text: &mut String,
+    reader: &Reader,
+    number: NodeNo,
+    ids: &[TxId],
+) -> Result<(), OutOfMemory>
+    ensures { OnOk result (string_bytes text.new
+        ≡ string_bytes text.old ++ pending_line reader.now.names number ids.now) }
+{
+    let number = number.get();
+    write!(text, "held {number} pending ")?;
+    push_ids(alloc, text, reader, ids)?;
+    text.push('\n')?;
+    Ok(())
+}
+
+pub fn push_agreement_line(
+    text: &mut String,
+    number: NodeNo,
+    round: &Round,
+) -> Result<(), OutOfMemory>
+    ensures { OnOk result (string_bytes text.new ≡ string_bytes text.old ++ agreement_line number round.now) }
+{
+    let number = number.get();
+    let (agreeing, proposers) = (round.agreeing(), round.proposers());
+    writeln!(text, "held {number} agreement {agreeing} {proposers}")?;
+    Ok(())
+}
+
+fn has_same_round(before: &NotedRound, round: &Round) -> bool
+    ensures { result ≡ is_same_round (round_seen before.now) round.now }
+{
+    is_same_phase(before.phase, round.phase())
+        && is_same_mode(before.mode, round.mode())
+        && before.started == round.started()
+}
+
+fn push_new_round(
+    text: &mut String,
+    number: NodeNo,
+    before: &NotedRound,
+    round: &Round,
+) -> Result<(), OutOfMemory>
+    ensures { OnOk result (string_bytes text.new ≡ string_bytes text.old
+        ++ unless (is_same_round (round_seen before.now) round.now) (round_line number round.now)) }
+{
+    if has_same_round(before, round) {
+        return Ok(());
+    }
+    push_round_line(text, number, round)
+}
+
+fn push_new_position(
+    alloc: Global,
+    text: &mut String,
+    reader: &Reader,
+    number: NodeNo,
+    before: &Proposal,
+    position: &Proposal,
+) -> Result<(), OutOfMemory>
+    ensures { OnOk result (string_bytes text.new ≡ string_bytes text.old
+        ++ unless (is_same_proposal before.now position.now) (position_line reader.now.names number position.now)) }
+{
+    if has_same_proposal(before, position) {
+        return Ok(());
+    }
+    push_position_line(alloc, text, reader, number, position)
+}
+
+fn push_new_set(
+    alloc: Global,
+    text: &mut String,
+    reader: &Reader,
+    number: NodeNo,
+    before: &[TxId],
+    ids: &[TxId],
+) -> Result<(), OutOfMemory>
+    ensures { OnOk result (string_bytes text.new ≡ string_bytes text.old
+        ++ unless (are_same_ids before.now ids.now) (set_line reader.now.names number ids.now)) }
+{
+    if have_same_ids(before, ids) {
+        return Ok(());
+    }
+    push_set_line(alloc, text, reader, number, ids)
+}
+
+fn push_new_pending(
+    alloc: Global,
+    text: &mut String,
+    reader: &Reader,
+    number: NodeNo,
+    before: &[TxId],
+    ids: &[TxId],
+) -> Result<(), OutOfMemory>
+    ensures { OnOk result (string_bytes text.new ≡ string_bytes text.old
+        ++ unless (are_same_ids before.now ids.now) (pending_line reader.now.names number ids.now)) }
+{
+    if have_same_ids(before, ids) {
+        return Ok(());
+    }
+    push_pending_line(alloc, text, reader, number, ids)
+}
+
+/// What is new of its own part in its round.
+pub fn push_new_part(
+    alloc: Global,
+    text: &mut String,
+    reader: &Reader,
+    number: NodeNo,
+    before: &NotedRound,
+    round: &Round,
+) -> Result<(), OutOfMemory>
+    ensures { OnOk result (string_bytes text.new
+        ≡ string_bytes text.old ++ round_changed reader.now.names number (round_seen before.now) round.now) }
+{
+    push_new_round(text, number, before, round)?;
+    push_new_position(
+        alloc,
+        text,
+        reader,
+        number,
+        &before.position,
+        &round.position(),
+    )?;
+    push_new_set(
+        alloc,
+        text,
+        reader,
+        number,
+        before.own.as_slice(),
+        round.own_set(),
+    )?;
+    push_new_pending(
+        alloc,
+        text,
+        reader,
+        number,
+        before.pending.as_slice(),
+        round.pending(),
+    )
+}
+
+fn has_same_agreement(before: &NotedRound, round: &Round) -> bool
+    ensures { result
+        ≡ (before.now.agreeing == count_agreeing round.now.positions && before.now.proposers == count round.now.positions) }
+{
+    before.agreeing == round.agreeing() && before.proposers == round.proposers()
+}
+
+/// How many of the members' positions name its set, if that is new.
+pub fn push_new_agreement(
+    text: &mut String,
+    number: NodeNo,
+    before: &NotedRound,
+    round: &Round,
+) -> Result<(), OutOfMemory>
+    ensures { OnOk result (string_bytes text.new
+        ≡ string_bytes text.old ++ agreement_changed number (round_seen before.now) round.now) }
+{
+    if has_same_agreement(before, round) {
+        return Ok(());
+    }
+    push_agreement_line(text, number, round)
+}
+
+/// Its own part in its round.
+pub fn push_part(
+    alloc: Global,
+    text: &mut String,
+    reader: &Reader,
+    number: NodeNo,
+    round: &Round,
+) -> Result<(), OutOfMemory>
+    ensures { OnOk result (string_bytes text.new
+        ≡ string_bytes text.old ++ round_opened reader.now.names number round.now) }
+{
+    push_round_line(text, number, round)?;
+    push_position_line(alloc, text, reader, number, &round.position())?;
+    push_set_line(alloc, text, reader, number, round.own_set())?;
+    push_pending_line(alloc, text, reader, number, round.pending())
+}

@@ -1,0 +1,141 @@
+// A node's time, kept number, issuing and list.
+ghost use Rattle.std.specs.Prelude.{◌≡◌, ◌==◌, ◌++◌, OnOk};
+ghost use Rattle.std.specs.String.{string_bytes};
+ghost use Rattle.xl_held.specs.Changes.{settings_changed, settings_opened, unless};
+ghost use Rattle.xl_held.specs.Lines.{issuing_line, kept_line, list_line, time_line};
+ghost use Rattle.xl_noted.specs.Same.{is_same_list, is_same_number};
+ghost use Rattle.xl_noted.specs.Seen.{noted_seen};
+
+use crate::words::push_issuing;
+use std::fmt::Write;
+use xl_base::{Millis, NodeNo, OutOfMemory, Seq};
+use xl_core::Node;
+use xl_lists::List;
+use xl_noted::{Noted, is_same_list as has_same_list, is_same_number as has_same_number};
+use xl_told::push_list;
+use xl_trie::Trie;
+
+fn push_time(text: &mut String, node: NodeNo, time: Millis) -> Result<(), OutOfMemory>
+    ensures { OnOk result (string_bytes text.new ≡ string_bytes text.old ++ time_line node time) }
+{
+    let number = node.get();
+    writeln!(text, "held {number} time {time}")?;
+    Ok(())
+}
+
+fn push_kept(text: &mut String, node: NodeNo, kept: Seq) -> Result<(), OutOfMemory>
+    ensures { OnOk result (string_bytes text.new ≡ string_bytes text.old ++ kept_line node kept) }
+{
+    let number = node.get();
+    writeln!(text, "held {number} kept {kept}")?;
+    Ok(())
+}
+
+fn push_issuing_line(
+    text: &mut String,
+    node: NodeNo,
+    failed: &Option<Seq>,
+) -> Result<(), OutOfMemory>
+    ensures { OnOk result (string_bytes text.new ≡ string_bytes text.old ++ issuing_line node failed.now) }
+{
+    let number = node.get();
+    write!(text, "held {number} issuing ")?;
+    push_issuing(text, failed)?;
+    text.push('\n')?;
+    Ok(())
+}
+
+fn push_list_line(text: &mut String, node: NodeNo, list: &List) -> Result<(), OutOfMemory>
+    ensures { OnOk result (string_bytes text.new ≡ string_bytes text.old ++ list_line node list.now) }
+{
+    let number = node.get();
+    write!(text, "held {number} list ")?;
+    push_list(text, list)?;
+    text.push('\n')?;
+    Ok(())
+}
+
+fn push_new_time(
+    text: &mut String,
+    node: NodeNo,
+    before: Millis,
+    time: Millis,
+) -> Result<(), OutOfMemory>
+    ensures { OnOk result (string_bytes text.new
+        ≡ string_bytes text.old ++ unless (before == time) (time_line node time)) }
+{
+    if before == time {
+        return Ok(());
+    }
+    push_time(text, node, time)
+}
+
+fn push_new_kept(text: &mut String, node: NodeNo, before: Seq, kept: Seq) -> Result<(), OutOfMemory>
+    ensures { OnOk result (string_bytes text.new
+        ≡ string_bytes text.old ++ unless (before == kept) (kept_line node kept)) }
+{
+    if before == kept {
+        return Ok(());
+    }
+    push_kept(text, node, kept)
+}
+
+fn push_new_issuing(
+    text: &mut String,
+    node: NodeNo,
+    before: &Option<Seq>,
+    failed: &Option<Seq>,
+) -> Result<(), OutOfMemory>
+    ensures { OnOk result (string_bytes text.new ≡ string_bytes text.old
+        ++ unless (is_same_number before.now failed.now) (issuing_line node failed.now)) }
+{
+    if has_same_number(before, failed) {
+        return Ok(());
+    }
+    push_issuing_line(text, node, failed)
+}
+
+fn push_new_list(
+    text: &mut String,
+    node: NodeNo,
+    before: &List,
+    list: &List,
+) -> Result<(), OutOfMemory>
+    ensures { OnOk result (string_bytes text.new
+        ≡ string_bytes text.old ++ unless (is_same_list before.now list.now) (list_line node list.now)) }
+{
+    if has_same_list(before, list) {
+        return Ok(());
+    }
+    push_list_line(text, node, list)
+}
+
+/// What is new of its time, kept number, issuing and list.
+pub fn push_new_settings(
+    text: &mut String,
+    number: NodeNo,
+    before: &Noted,
+    node: &Node<Trie>,
+) -> Result<(), OutOfMemory>
+    ensures { OnOk result (string_bytes text.new
+        ≡ string_bytes text.old ++ settings_changed number (noted_seen before.now) node.now) }
+{
+    push_new_time(text, number, before.time, node.time())?;
+    push_new_kept(text, number, before.kept, node.kept())?;
+    push_new_issuing(text, number, &before.failed_save, &node.failed_save())?;
+    push_new_list(text, number, &before.list, node.list())
+}
+
+/// Its time, kept number, issuing and list.
+pub fn push_settings(
+    text: &mut String,
+    number: NodeNo,
+    node: &Node<Trie>,
+) -> Result<(), OutOfMemory>
+    ensures { OnOk result (string_bytes text.new ≡ string_bytes text.old ++ settings_opened number node.now) }
+{
+    push_time(text, number, node.time())?;
+    push_kept(text, number, node.kept())?;
+    push_issuing_line(text, number, &node.failed_save())?;
+    push_list_line(text, number, node.list())
+}

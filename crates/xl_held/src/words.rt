@@ -1,0 +1,120 @@
+// Words of what a node holds, added to a text.
+ghost use Rattle.std.specs.Prelude.{◌≡◌, ◌++◌, OnOk};
+ghost use Rattle.std.specs.String.{string_bytes};
+ghost use Rattle.xl_held.specs.Words.{
+  issuing_text,
+  last_text,
+  mode_text,
+  phase_text,
+  position_text,
+  relisted_text,
+  report_text,
+  row_text,
+};
+
+use std::alloc::Global;
+use std::fmt::Write;
+use xl_base::{OutOfMemory, Seq};
+use xl_core::{LastReport, Report};
+use xl_rounds::{Mode, Phase};
+use xl_running::push_id;
+use xl_sched::Reader;
+use xl_told::{push_proposal, push_validation};
+use xl_wire::{Proposal, Validation};
+
+pub fn push_issuing(text: &mut String, failed: &Option<Seq>) -> Result<(), OutOfMemory>
+    ensures { OnOk result (string_bytes text.new ≡ string_bytes text.old ++ issuing_text failed.now) }
+{
+    match failed {
+        Some(seq) => Ok(write!(text, "off {seq}")?),
+        None => Ok(text.push_str("on")?),
+    }
+}
+
+pub fn push_report(
+    alloc: Global,
+    text: &mut String,
+    reader: &Reader,
+    report: &Option<Report>,
+) -> Result<(), OutOfMemory>
+    ensures { OnOk result (string_bytes text.new
+        ≡ string_bytes text.old ++ report_text reader.now.names report.now) }
+{
+    let Some(Report { seq, id }) = report else {
+        return Ok(text.push_str("none")?);
+    };
+    write!(text, "{seq} ")?;
+    push_id(alloc, text, reader, id)
+}
+
+fn push_relisted(text: &mut String, relisted: bool) -> Result<(), OutOfMemory>
+    ensures { OnOk result (string_bytes text.new ≡ string_bytes text.old ++ relisted_text relisted) }
+{
+    if relisted {
+        text.push_str(" relisted")?;
+    }
+    Ok(())
+}
+
+pub fn push_last(
+    alloc: Global,
+    text: &mut String,
+    reader: &Reader,
+    last: &LastReport,
+) -> Result<(), OutOfMemory>
+    ensures { OnOk result (string_bytes text.new ≡ string_bytes text.old ++ last_text reader.now.names last.now) }
+{
+    push_report(alloc, text, reader, &last.report)?;
+    push_relisted(text, last.relisted)
+}
+
+pub fn push_row(
+    alloc: Global,
+    text: &mut String,
+    reader: &Reader,
+    row: &Option<Validation>,
+) -> Result<(), OutOfMemory>
+    ensures { OnOk result (string_bytes text.new ≡ string_bytes text.old ++ row_text reader.now.names row.now) }
+{
+    match row {
+        Some(validation) => push_validation(alloc, text, reader, validation),
+        None => Ok(text.push_str("none")?),
+    }
+}
+
+pub fn push_position(
+    alloc: Global,
+    text: &mut String,
+    reader: &Reader,
+    position: &Option<Proposal>,
+) -> Result<(), OutOfMemory>
+    ensures { OnOk result (string_bytes text.new
+        ≡ string_bytes text.old ++ position_text reader.now.names position.now) }
+{
+    match position {
+        Some(proposal) => push_proposal(alloc, text, reader, proposal),
+        None => Ok(text.push_str("none")?),
+    }
+}
+
+pub fn push_phase(text: &mut String, phase: Phase) -> Result<(), OutOfMemory>
+    ensures { OnOk result (string_bytes text.new ≡ string_bytes text.old ++ phase_text phase) }
+{
+    match phase {
+        Phase::Open => text.push_str("open")?,
+        Phase::Establish => text.push_str("establish")?,
+        Phase::Accepted => text.push_str("accepted")?,
+    }
+    Ok(())
+}
+
+pub fn push_mode(text: &mut String, mode: Mode) -> Result<(), OutOfMemory>
+    ensures { OnOk result (string_bytes text.new ≡ string_bytes text.old ++ mode_text mode) }
+{
+    match mode {
+        Mode::Proposing => text.push_str("proposing")?,
+        Mode::Observing => text.push_str("observing")?,
+        Mode::SwitchedLedger => text.push_str("switched")?,
+    }
+    Ok(())
+}

@@ -1,0 +1,15 @@
+//! The words in which it is told what happens in a schedule and what its nodes send: those of a schedule's line, with
+//! ids as a report prints them.
+//!
+//! It stands on xl_running, which prints ids by their names, and on xl_sched and xl_wire, whose events and bodies it
+//! spells. No command stands on it yet. Its one contract: each function puts behind a text exactly what its definition
+//! says.
+#![tactic(auto)]
+
+mod bodies;
+mod events;
+mod words;
+
+pub use bodies::push_said;
+pub use events::push_event;
+pub use words::{push_ids, push_list, push_proposal, push_validation};

@@ -1,0 +1,176 @@
+// Words that several lines share, added to a text.
+ghost use Rattle.std.specs.Prelude.{◌≡◌, ◌++◌, ◌∷◌, codes, decimal, OnOk};
+ghost use Rattle.std.specs.List.{flat_map};
+ghost use Rattle.std.specs.String.{string_bytes};
+ghost use Rattle.xl_told.specs.Words.{
+  fullness_text,
+  ids_text,
+  list_text,
+  members_text,
+  proposal_text,
+  set_text,
+  tx_text,
+  validated_text,
+  validation_text,
+};
+
+use std::alloc::Global;
+use std::fmt::Write;
+use xl_base::{LedgerId, NodeNo, OutOfMemory, SetId, TxId};
+use xl_lists::List;
+use xl_running::push_id;
+use xl_sched::Reader;
+use xl_wire::{Proposal, Validation};
+
+pub fn push_set_id(
+    alloc: Global,
+    text: &mut String,
+    reader: &Reader,
+    id: &SetId,
+) -> Result<(), OutOfMemory>
+    ensures { OnOk result (string_bytes text.new ≡ string_bytes text.old ++ set_text reader.now.names id.now) }
+{
+    push_id(alloc, text, reader, &LedgerId(id.0))
+}
+
+pub fn push_tx(
+    alloc: Global,
+    text: &mut String,
+    reader: &Reader,
+    id: &TxId,
+) -> Result<(), OutOfMemory>
+    ensures { OnOk result (string_bytes text.new ≡ string_bytes text.old ++ tx_text reader.now.names id.now) }
+{
+    push_id(alloc, text, reader, &LedgerId(id.0))
+}
+
+/// The numbers of members, each behind a comma.
+fn push_other_members(text: &mut String, others: &[NodeNo]) -> Result<(), OutOfMemory>
+    ensures { OnOk result (string_bytes text.new
+        ≡ string_bytes text.old ++ flat_map (λ other. codes "," ++ decimal other) others.now) }
+{
+    for other in others {
+        let number = other.get();
+        write!(text, ",{number}")?;
+    }
+    Ok(())
+}
+
+/// The numbers of members, with a comma between each two.
+fn push_members(text: &mut String, members: &[NodeNo]) -> Result<(), OutOfMemory>
+    ensures { OnOk result (string_bytes text.new ≡ string_bytes text.old ++ members_text members.now) }
+{
+    let Some((first, others)) = members.split_first() else {
+        return Ok(());
+    };
+    let number = first.get();
+    write!(text, "{number}")?;
+    push_other_members(text, others)
+}
+
+/// A quorum and the members.
+pub fn push_list(text: &mut String, list: &List) -> Result<(), OutOfMemory>
+    ensures { OnOk result (string_bytes text.new ≡ string_bytes text.old ++ list_text list.now) }
+{
+    let quorum = list.quorum();
+    write!(text, "{quorum} ")?;
+    push_members(text, list.members())
+}
+
+/// Ids of transactions, each behind a comma.
+fn push_other_ids(
+    alloc: Global,
+    text: &mut String,
+    reader: &Reader,
+    others: &[TxId],
+) -> Result<(), OutOfMemory>
+    ensures { OnOk result (string_bytes text.new
+        ≡ string_bytes text.old ++ flat_map (λ other. codes "," ++ tx_text reader.now.names other) others.now) }
+{
+    for other in others {
+        text.push(',')?;
+        push_tx(alloc, text, reader, other)?;
+    }
+    Ok(())
+}
+
+/// Ids of transactions, with a comma between each two, or `-` for none.
+pub fn push_ids(
+    alloc: Global,
+    text: &mut String,
+    reader: &Reader,
+    ids: &[TxId],
+) -> Result<(), OutOfMemory>
+    ensures { OnOk result (string_bytes text.new ≡ string_bytes text.old ++ ids_text reader.now.names ids.now) }
+{
+    let Some((first, others)) = ids.split_first() else {
+        text.push('-')?;
+        return Ok(());
+    };
+    push_tx(alloc, text, reader, first)?;
+    push_other_ids(alloc, text, reader, others)
+}
+
+pub fn push_fullness(text: &mut String, full: bool) -> Result<(), OutOfMemory>
+    ensures { OnOk result (string_bytes text.new ≡ string_bytes text.old ++ fullness_text full) }
+{
+    if full {
+        text.push_str("full")?;
+    } else {
+        text.push_str("partial")?;
+    }
+    Ok(())
+}
+
+/// The ledger that was last reported, if it is told, as one token more.
+fn push_validated(
+    alloc: Global,
+    text: &mut String,
+    reader: &Reader,
+    validated: &Option<LedgerId>,
+) -> Result<(), OutOfMemory>
+    ensures { OnOk result (string_bytes text.new
+        ≡ string_bytes text.old ++ validated_text reader.now.names validated.now) }
+{
+    match validated {
+        Some(id) => {
+            text.push(' ')?;
+            push_id(alloc, text, reader, id)
+        }
+        None => Ok(()),
+    }
+}
+
+pub fn push_validation(
+    alloc: Global,
+    text: &mut String,
+    reader: &Reader,
+    validation: &Validation,
+) -> Result<(), OutOfMemory>
+    ensures { OnOk result (string_bytes text.new
+        ≡ string_bytes text.old ++ validation_text reader.now.names validation.now) }
+{
+    let (seq, signed) = (validation.seq, validation.signed);
+    write!(text, "{seq} ")?;
+    push_id(alloc, text, reader, &validation.id)?;
+    write!(text, " {signed} ")?;
+    push_fullness(text, validation.full)?;
+    push_validated(alloc, text, reader, &validation.validated)
+}
+
+pub fn push_proposal(
+    alloc: Global,
+    text: &mut String,
+    reader: &Reader,
+    proposal: &Proposal,
+) -> Result<(), OutOfMemory>
+    ensures { OnOk result (string_bytes text.new
+        ≡ string_bytes text.old ++ proposal_text reader.now.names proposal.now) }
+{
+    push_id(alloc, text, reader, &proposal.prev)?;
+    text.push(' ')?;
+    push_set_id(alloc, text, reader, &proposal.set)?;
+    let (pseq, close, time) = (proposal.pseq, proposal.close, proposal.time);
+    write!(text, " {pseq} {close} {time}")?;
+    Ok(())
+}
