@@ -81,7 +81,7 @@ fn write_into(keys: &Keys, to: NodeNo, tags: TagPlace, body: Body<'_>, place: &m
     };
     encode(&frame, place);
     match tags {
-        TagPlace::Sealed => seal(keys, place),
+        TagPlace::Sealed => seal(keys, to, place),
         TagPlace::Blank => (),
     }
 }

@@ -4,9 +4,9 @@
 //! has the core and the keeper for itself. It leaves one entry in the journal, which tells the event and how its save
 //! was answered. Only contracts see the journal. A store that was asked to keep its entries has each of them in memory
 //! too. The memory of an entry is taken before the turn, and the turn itself moves one pointer. That for a node's end is
-//! taken when the store opens. So the body of each call enters, calls the core, and finishes. Each caller has a pass, which has seen a beginning of the journal; a pass
-//! may be split for another thread, and two may be joined. Who has the whole share closes the store, and gets core,
-//! keeper and journal, and the entries if they were kept.
+//! taken when the store opens. So the body of each call enters, calls the core, and finishes. Each caller has a pass,
+//! which has seen a beginning of the journal; a pass may be split for another thread, and two may be joined. Who has the
+//! whole share closes the store, and gets core, keeper and journal, and the entries if they were kept.
 //!
 //! It stands on the lock of xl_turns and on the core of xl_core. Its one contract: the journal is a legal history of
 //! the core that the store was opened with, and each call answers what the core's step answers at its place in it. The

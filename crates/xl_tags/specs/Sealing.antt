@@ -35,9 +35,10 @@ pub record IsWhole (bytes : List ℕ) : Type 0 where
   pub frame : RawFrame
   pub spells : SpellsRaw frame bytes
 
--- the bytes are one whole frame, from the ring's member to one that has a key
-pub record IsToSeal (ring : Ring) (bytes : List ℕ) : Type 0 where
+-- the bytes are one whole frame, from the ring's member to this one, which has a key
+pub record IsToSeal (ring : Ring) (to : ℕ) (bytes : List ℕ) : Type 0 where
   pub frame : RawFrame
   pub spells : SpellsRaw frame bytes
   pub mine : frame.from ≡ ring.me
-  pub keyed : IsSome (key_of ring frame.to)
+  pub theirs : frame.to ≡ to
+  pub keyed : IsSome (key_of ring to)

@@ -3,17 +3,17 @@ ghost use Rattle.xl_wire.specs.Raws.{RawFrame, SpellsRaw, raw_frame};
 ghost use Rattle.xl_tags.specs.Sealing.{before_tag, sealed, IsToSeal, IsWhole};
 
 use crate::keys::Keys;
+use xl_base::NodeNo;
 use xl_wire::{Parted, Raw, split};
 
-/// Writes the tag into the last 32 bytes of a frame: that of all bytes before it, under the key of the frame's
+/// Writes the tag into the last 32 bytes of a frame to this receiver: that of all bytes before it, under the key for the
 /// receiver.
-pub fn seal(keys: &Keys, frame: &mut [u8])
-    requires { IsToSeal keys.now frame.old }
+pub fn seal(keys: &Keys, to: NodeNo, frame: &mut [u8])
+    requires { IsToSeal keys.now to frame.old }
     ensures sealed { (f : RawFrame) → SpellsRaw f frame.old → SpellsRaw (sealed keys.now f) frame.new }
     ensures kept { before_tag frame.new ≡ before_tag frame.old }
 {
-    let to = whole(frame).to;
-    let tag = keys.tag(to, before_tag(frame));
+    let tag = keys.tag(to.get(), before_tag(frame));
     put_tag(frame, &tag);
 }
 

@@ -140,19 +140,19 @@ fn one_frame(bytes: &[u8]) -> Option<Raw<'_>>
     }
 }
 
-fn is_to_seal(keys: &Keys, bytes: &[u8]) -> bool
-    ensures { IsTrue result → IsToSeal keys.now bytes.now }
+fn is_to_seal(keys: &Keys, to: NodeNo, bytes: &[u8]) -> bool
+    ensures { IsTrue result → IsToSeal keys.now to bytes.now }
 {
     match one_frame(bytes) {
-        Some(raw) => raw.from == keys.me().get() && keys.knows(raw.to),
+        Some(raw) => raw.from == keys.me().get() && raw.to == to.get() && keys.knows(to.get()),
         None => false,
     }
 }
 
-/// Seals the bytes, if they are one frame from the keys' member to one with a key.
-fn try_seal(keys: &Keys, bytes: &mut [u8]) -> bool {
-    if is_to_seal(keys, bytes) {
-        seal(keys, bytes);
+/// Seals the bytes, if they are one frame from the keys' member to this one, which has a key.
+fn try_seal(keys: &Keys, to: NodeNo, bytes: &mut [u8]) -> bool {
+    if is_to_seal(keys, to, bytes) {
+        seal(keys, to, bytes);
         true
     } else {
         false
@@ -187,7 +187,7 @@ fn a_frame_is_sealed_and_opened(rt: HostRuntime) -> Result<(), Fail> {
     let list = List::new(&[1, 2, 3], 2)?;
     let keys = put_keys(member(2)?, &[1, 3])?;
     let mut frame = validation(1, 2);
-    assert!(rt; try_seal(&Keys::of_schedule(member(1)?), &mut frame));
+    assert!(rt; try_seal(&Keys::of_schedule(member(1)?), member(2)?, &mut frame));
     assert_eq!(rt; tag_in(&frame), hex::decode(rt.alloc(), TAG)?.as_slice());
     assert_eq!(rt; try_open(&keys, &list, &frame), Some(Ok(())));
     for place in 0..87 {
@@ -225,7 +225,7 @@ fn carries_its_tag(keys: &Keys, bytes: &[u8]) -> bool {
 /// A validation to 2, sealed by its sender.
 fn sealed_to_2(from: NodeNo) -> Result<[u8; 87], u32> {
     let mut frame = validation(from.get(), 2);
-    try_seal(&put_keys(from, &[2])?, &mut frame);
+    try_seal(&put_keys(from, &[2])?, member(2)?, &mut frame);
     Ok(frame)
 }
 

@@ -22,7 +22,7 @@ spelled c =
 pub seal-requires : goal.seal-requires
 seal-requires c =
     let d = (goal.at.seal-requires c).After-encode in
-    record { frame = blank d; spells = spelled d; mine = refl; keyed = d.requires.key }
+    record { frame = blank d; spells = spelled d; mine = refl; theirs = refl; keyed = d.requires.key }
 
 pub returns-in-Sealed-clause-sealed : goal.returns-in-Sealed-clause-sealed
 returns-in-Sealed-clause-sealed c =
