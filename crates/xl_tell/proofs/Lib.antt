@@ -1,0 +1,11 @@
+pub mod Writing
+pub mod Sealed
+pub mod Frames
+pub mod Telling
+pub mod Going
+pub mod Plain
+pub mod Leaving
+pub mod Holdings
+pub mod Outcomes
+pub mod Whole
+pub mod Ending

@@ -1,0 +1,47 @@
+-- What a frame says doesn't hang on its tag.
+use Rattle.std.proofs.Common.{◌≡◌, ◌<◌, ◌++◌, ℕ, List, [], length, get_or, refl, sym, ap, ◌∙◌, append-nil}
+use Rattle.std.specs.Prelude.{Result, Ok, Err, nat_lt}
+use Rattle.std.proofs.lemmas.Bool.{cond_both}
+use Rattle.xl_core.specs.Hearing.{bytes_as_sealed, sealed_in}
+use Rattle.xl_sched.specs.declared.named.Named.{Named}
+use Rattle.xl_tags.specs.Rings.{Ring}
+use Rattle.xl_tags.specs.Sealing.{as_sealed, with_tag}
+use Rattle.xl_tags.proofs.OpeningLaws.{IsRaw-as_sealed}
+use Rattle.xl_told.specs.Bodies.{said_text}
+use Rattle.xl_wire.specs.declared.body.Body.{Body}
+use Rattle.xl_wire.specs.declared.refusal.WireRefusal.{WireRefusal}
+use Rattle.xl_wire.specs.Bodies.{body_of}
+use Rattle.xl_wire.specs.Frames.{decoded_of, with_bodies, with_body}
+use Rattle.xl_wire.specs.Heads.{Split, split_of}
+use Rattle.xl_wire.specs.Heads.Split.{Whole, Need, Refused}
+use Rattle.xl_wire.specs.Kinds.{span}
+use Rattle.xl_wire.specs.Raws.{IsRaw, RawFrame, raw_bytes}
+use Rattle.xl_wire.proofs.Numbers.{IsBytes}
+use Rattle.xl_wire.proofs.RawLaws.{split_again, split_spelled}
+
+body_said : (names : List Named) (f : RawFrame) (tag : List ℕ) (body : Result Body WireRefusal) → said_text names (with_body (with_tag f tag) body) ≡ said_text names (with_body f body)
+body_said names f tag (Ok body) = refl
+body_said names f tag (Err why) = refl
+
+-- a frame with another tag
+tagged : (names : List Named) (f : RawFrame) (tag : List ℕ) → said_text names (with_bodies (Whole (with_tag f tag))) ≡ said_text names (with_bodies (Whole f))
+tagged names f tag = body_said names f tag (body_of f.kind f.body)
+
+module _ (names : List Named) (ring : Ring) (bytes : List ℕ) (fits : IsBytes bytes) where
+  whole : (f : RawFrame) → split_of bytes ≡ Whole f → said_text names (decoded_of (raw_bytes (as_sealed ring f))) ≡ said_text names (decoded_of bytes)
+  whole f is =
+      let g : RawFrame = as_sealed ring f in
+      let ok : IsRaw g = IsRaw-as_sealed ring f (split_spelled bytes f fits is).frame in
+      let again : split_of (raw_bytes g) ≡ Whole g = ap split_of (sym (append-nil (raw_bytes g))) ∙ split_again g [] ok in
+      ap (λ (s : Split). said_text names (with_bodies s)) again
+      ∙ (tagged names f g.tag ∙ sym (ap (λ (s : Split). said_text names (with_bodies s)) is))
+
+  by_split : (s : Split) → split_of bytes ≡ s → said_text names (decoded_of (sealed_in ring bytes s)) ≡ said_text names (decoded_of bytes)
+  by_split (Refused why) is = refl
+  by_split (Need lack) is = refl
+  by_split (Whole f) is =
+      cond_both (nat_lt (span f.body) (length bytes)) bytes (raw_bytes (as_sealed ring f)) (λ (sent : List ℕ). said_text names (decoded_of sent) ≡ said_text names (decoded_of bytes))
+      (λ _. refl) (λ _. whole f is)
+
+  pub said_sealed : said_text names (decoded_of (bytes_as_sealed ring bytes)) ≡ said_text names (decoded_of bytes)
+  said_sealed = by_split (split_of bytes) refl

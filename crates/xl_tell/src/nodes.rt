@@ -1,0 +1,146 @@
+// The node at which something happens, and what it holds.
+ghost use Rattle.std.specs.Prelude.{◌≡◌, ◌++◌, IfOk, OnOk, option_map};
+ghost use Rattle.std.specs.String.{string_bytes};
+ghost use Rattle.xl_noted.specs.Seen.{noted_seen};
+ghost use Rattle.xl_tell.specs.Nodes.{all_opened, changed_at, changed_in, node_of, noted_at, opened_in};
+ghost use Rattle.xl_world.specs.Schedule.{frame_at, node_asked};
+ghost use Rattle.xl_world.specs.World.{core_in};
+
+use std::alloc::Global;
+use xl_base::{NodeNo, OutOfMemory};
+use xl_held::{push_changed, push_opened};
+use xl_noted::Noted;
+use xl_sched::{Ask, Reader, What};
+use xl_world::World;
+
+fn node_asked(ask: &Ask) -> NodeNo
+    ensures { result ≡ node_asked ask.now }
+{
+    match *ask {
+        Ask::Issue { node, .. } | Ask::Timer { node } => node,
+    }
+}
+
+/// Who receives the sent frame of a place, from 1 on.
+fn receiver_of(world: &World, place: u64) -> Option<NodeNo>
+    ensures { result ≡ option_map (λ frame. frame.to) (frame_at world.now.sent place) }
+{
+    let Some(before) = place.checked_sub(1) else {
+        return None;
+    };
+    match world.sent().get(before as usize) {
+        Some(frame) => Some(frame.to()),
+        None => None,
+    }
+}
+
+/// The node at which something happens, if it is one.
+pub fn node_of(world: &World, what: &What) -> Option<NodeNo>
+    ensures { result ≡ node_of world.now what.now }
+{
+    match what {
+        What::Ask(ask) => Some(node_asked(ask)),
+        What::Timers => None,
+        What::Submit { node, .. } => Some(*node),
+        What::Deliver { place } => receiver_of(world, *place),
+        What::All => None,
+        What::Drop => None,
+        What::Greet { node, .. } => Some(*node),
+        What::Restart { node } => Some(*node),
+        What::Cut { ask, .. } => Some(node_asked(ask)),
+        What::Fail { ask, .. } => Some(node_asked(ask)),
+        What::List { node, .. } => Some(*node),
+        What::Lie { to, .. } => Some(*to),
+        What::Raw { to, .. } => Some(*to),
+        What::Prefer { node } => Some(*node),
+        What::Heard { node } => Some(*node),
+    }
+}
+
+/// What the node holds, if there is one.
+pub fn note_at(
+    alloc: Global,
+    world: &World,
+    node: &Option<NodeNo>,
+) -> Result<Option<Noted>, OutOfMemory>
+    ensures { IfOk result (λ before. option_map noted_seen before ≡ noted_at world.now node.now) }
+{
+    let Some(number) = node else {
+        return Ok(None);
+    };
+    match world.node(*number) {
+        Some(core) => Ok(Some(Noted::of(alloc, core.node())?)),
+        None => Ok(None),
+    }
+}
+
+/// What the node of a number holds that it didn't hold when it was noted.
+fn push_changed_in(
+    alloc: Global,
+    text: &mut String,
+    reader: &Reader,
+    number: NodeNo,
+    before: &Noted,
+    world: &World,
+) -> Result<(), OutOfMemory>
+    ensures { OnOk result (string_bytes text.new ≡ string_bytes text.old
+        ++ changed_in reader.now.names number (noted_seen before.now) (core_in world.now number)) }
+{
+    match world.node(number) {
+        Some(core) => push_changed(alloc, text, reader, number, before, core.node()),
+        None => Ok(()),
+    }
+}
+
+/// What the node holds that it didn't hold when it was noted.
+pub fn push_changed_at(
+    alloc: Global,
+    text: &mut String,
+    reader: &Reader,
+    node: &Option<NodeNo>,
+    before: &Option<Noted>,
+    world: &World,
+) -> Result<(), OutOfMemory>
+    ensures { OnOk result (string_bytes text.new ≡ string_bytes text.old
+        ++ changed_at reader.now.names node.now (option_map noted_seen before.now) world.now) }
+{
+    let Some(number) = node else {
+        return Ok(());
+    };
+    match before {
+        Some(before) => push_changed_in(alloc, text, reader, *number, before, world),
+        None => Ok(()),
+    }
+}
+
+/// What the node of a number holds that was just opened.
+fn push_opened_in(
+    alloc: Global,
+    text: &mut String,
+    reader: &Reader,
+    number: NodeNo,
+    world: &World,
+) -> Result<(), OutOfMemory>
+    ensures { OnOk result (string_bytes text.new
+        ≡ string_bytes text.old ++ opened_in reader.now.names number (core_in world.now number)) }
+{
+    match world.node(number) {
+        Some(core) => push_opened(alloc, text, reader, number, core.node()),
+        None => Ok(()),
+    }
+}
+
+/// What all nodes hold that were just opened.
+pub fn push_all_opened(
+    alloc: Global,
+    text: &mut String,
+    reader: &Reader,
+    world: &World,
+) -> Result<(), OutOfMemory>
+    ensures { OnOk result (string_bytes text.new ≡ string_bytes text.old ++ all_opened reader.now.names world.now) }
+{
+    for &number in world.numbers() {
+        push_opened_in(alloc, text, reader, number, world)?;
+    }
+    Ok(())
+}

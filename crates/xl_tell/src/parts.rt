@@ -1,0 +1,57 @@
+// One part of an event, and what is told of it.
+ghost use Rattle.std.specs.Prelude.{◌≡◌, ◌≤◌, ◌++◌, Some, OnOk};
+ghost use Rattle.std.specs.String.{string_bytes};
+ghost use Rattle.xl_base.specs.Moments.{greatest_millis};
+ghost use Rattle.xl_running.specs.Running.{happens, world_of};
+ghost use Rattle.xl_tell.specs.Parts.{part_lines};
+ghost use Rattle.xl_world.specs.Schedule.{IsPlausible};
+
+use crate::nodes::{node_of, note_at, push_changed_at};
+use crate::sent::push_sent;
+use std::alloc::Global;
+use xl_base::OutOfMemory;
+use xl_replay::push_outcomes;
+use xl_running::Running;
+use xl_sched::Event;
+use xl_told::push_event;
+use xl_world::World;
+
+/// The world, which is open.
+pub fn world_in(running: &Running) -> &World
+    requires { running.now.world ≡ Some (world_of running.now) }
+    ensures { result.now ≡ world_of running.now }
+{
+    let Some(world) = running.world() else {
+        unreachable!()
+    };
+    world
+}
+
+/// A part of the event in the last line that was read: it happens, and is told.
+pub fn tell_part(
+    alloc: Global,
+    running: &mut Running,
+    event: &Event,
+    text: &mut String,
+) -> Result<(), OutOfMemory>
+    requires opened { running.old.world ≡ Some (world_of running.old) }
+    requires timely { event.now.at ≤ greatest_millis }
+    requires plausible { IsPlausible event.now.what }
+    ensures happens { OnOk result (running.new ≡ happens running.old event.now) }
+    ensures told { OnOk result (string_bytes text.new ≡ string_bytes text.old
+        ++ part_lines running.old.reading.names running.old.reading.lines (world_of running.old) event.now) }
+{
+    let reader = running.reader();
+    push_event(alloc, text, reader, reader.lines(), event)?;
+    let first = world_in(running);
+    let sent = first.sent().len();
+    let node = node_of(first, &event.what);
+    let before = note_at(alloc, first, &node)?;
+    let happened = running.event(event)?;
+    let reader = running.reader();
+    push_outcomes(alloc, text, reader, reader.lines(), happened.as_slice())?;
+    let world = world_in(running);
+    push_sent(alloc, text, reader, world.sent(), sent)?;
+    push_changed_at(alloc, text, reader, &node, &before, world)?;
+    Ok(())
+}

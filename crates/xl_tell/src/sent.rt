@@ -1,0 +1,50 @@
+// The frames that were sent.
+ghost use Rattle.std.specs.Prelude.{◌≡◌, ◌+◌, ◌++◌, drop, OnOk};
+ghost use Rattle.std.specs.String.{string_bytes};
+ghost use Rattle.xl_tell.specs.Parts.{sent_line, sent_lines};
+
+use std::alloc::Global;
+use std::fmt::Write;
+use xl_base::OutOfMemory;
+use xl_sched::Reader;
+use xl_told::push_said;
+use xl_world::{Sent, SentFrames};
+
+/// A frame of this number.
+fn push_frame(
+    alloc: Global,
+    text: &mut String,
+    reader: &Reader,
+    number: usize,
+    frame: &Sent<'_>,
+) -> Result<(), OutOfMemory>
+    ensures { OnOk result (string_bytes text.new
+        ≡ string_bytes text.old ++ sent_line reader.now.names number frame.now) }
+{
+    let (from, to) = (frame.from().get(), frame.to().get());
+    write!(text, "sent {number} {from} {to} ")?;
+    let bytes = frame.bytes(alloc)?;
+    push_said(alloc, text, reader, bytes.as_slice())?;
+    text.push('\n')?;
+    Ok(())
+}
+
+/// The frames that were sent, except the first of this number.
+pub fn push_sent(
+    alloc: Global,
+    text: &mut String,
+    reader: &Reader,
+    sent: &SentFrames,
+    before: usize,
+) -> Result<(), OutOfMemory>
+    ensures { OnOk result (string_bytes text.new
+        ≡ string_bytes text.old ++ sent_lines reader.now.names (before + 1) (drop before sent.now)) }
+{
+    for place in before..sent.len() {
+        let Some(frame) = sent.get(place) else {
+            unreachable!()
+        };
+        push_frame(alloc, text, reader, place + 1, &frame)?;
+    }
+    Ok(())
+}
