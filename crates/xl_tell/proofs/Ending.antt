@@ -1,5 +1,5 @@
 -- A telling ends as a report does: it is read to its end, and is never empty there.
-use Rattle.std.proofs.Common.{◌≡◌, ◌+◌}
+use Rattle.std.proofs.Common.{◌+◌}
 use Rattle.xl_lines.specs.Causes.{EndsAloud, RefusesAloud}
 use Rattle.xl_lines.specs.Ends.{FindsAtEnd, FindsNothing}
 use Rattle.xl_replay.proofs.AtEnd as replay_end

@@ -1,14 +1,13 @@
 -- The lines of what nodes hold, of events and of frames are no report's.
-use Rattle.std.proofs.Common.{◌≡◌, ℕ, ◌==◌, ◌-◌, ◌+◌, ◌&&◌, List, [], ◌∷◌, ◌++◌, length, refl, Option, Some, None}
-use Rattle.std.specs.Prelude.{codes, decimal, drop, is_some, nat_lt}
-use Rattle.std.specs.List.{flat_map}
+use Rattle.std.proofs.Common.{ℕ, ◌==◌, ◌-◌, ◌+◌, ◌&&◌, List, [], ◌∷◌, ◌++◌, length, refl, Option, Some, None}
+use Rattle.std.specs.Prelude.{codes, decimal, nat_lt}
 use Rattle.xl_base.specs.declared.ids.TxId.{TxId}
 use Rattle.xl_core.specs.declared.last.LastReport.{LastReport}
 use Rattle.xl_core.specs.declared.report.Report.{Report}
 use Rattle.xl_core.specs.Core.{Core}
 use Rattle.xl_core.specs.Node.{Node, preferred}
-use Rattle.xl_held.specs.Changes.{agreement_changed, changed_lines, is_same_round, ledgers_changed, opened_lines, proposal_changed, proposals_changed, reports_changed, reports_opened, round_changed, round_opened, row_changed, rows_changed, settings_changed, settings_opened}
-use Rattle.xl_held.specs.Lines.{agreement_line, issuing_line, kept_line, known_line, ledger_line, ledger_lines, list_line, pending_line, position_line, prefers_line, proposal_line, report_line, round_line, row_line, set_line, time_line}
+use Rattle.xl_held.specs.Changes.{agreement_changed, changed_lines, is_same_round, ledgers_changed, opened_lines, proposal_changed, proposals_changed, reports_changed, round_changed, row_changed, rows_changed, settings_changed}
+use Rattle.xl_held.specs.Lines.{agreement_line, issuing_line, kept_line, known_line, ledger_line, list_line, pending_line, position_line, prefers_line, proposal_line, report_line, round_line, row_line, set_line, time_line}
 use Rattle.xl_ledger.specs.Chains.{header_at, id_at}
 use Rattle.xl_ledger.specs.declared.header.Header.{Header}
 use Rattle.xl_lists.specs.Lists.{TrustedList}

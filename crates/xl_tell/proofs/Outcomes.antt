@@ -1,7 +1,6 @@
 -- The lines of a report stay.
-use Rattle.std.proofs.Common.{◌≡◌, ℕ, ◌+◌, ◌-◌, ◌==◌, ◌&&◌, List, [], ◌∷◌, ◌++◌, refl, Option, Some, None}
-use Rattle.std.specs.Prelude.{codes, decimal, is_some}
-use Rattle.std.specs.List.{flat_map}
+use Rattle.std.proofs.Common.{ℕ, ◌+◌, ◌-◌, List, refl, Option, Some, None}
+use Rattle.std.specs.Prelude.{codes}
 use Rattle.xl_core.specs.declared.timer_answer.Issued.{Issued}
 use Rattle.xl_core.specs.declared.timer_answer.Issued.TheVariants as issued
 use Rattle.xl_core.specs.Refusals.{code_of as refusal_code}

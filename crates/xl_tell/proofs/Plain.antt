@@ -1,5 +1,5 @@
 -- Words with no newline.
-use Rattle.std.proofs.Common.{◌≡◌, ℕ, Bool, true, false, List, [], ◌∷◌, ◌++◌, length, refl, Option, Some, None}
+use Rattle.std.proofs.Common.{ℕ, Bool, true, false, List, [], ◌∷◌, ◌++◌, length, refl, Option, Some, None}
 use Rattle.std.specs.Prelude.{codes, decimal}
 use Rattle.std.specs.List.{flat_map}
 use Rattle.hex.specs.Hex.{encode_lower, lower_digits}
@@ -31,7 +31,7 @@ use Rattle.xl_sched.specs.declared.named.Named.{Named}
 use Rattle.xl_sched.specs.Tokens.{shown_token}
 use Rattle.xl_told.specs.Bodies.{body_text, header_text, said_text}
 use Rattle.xl_told.specs.Events.{ask_text, held_text, lied_text, what_text}
-use Rattle.xl_told.specs.Words.{fullness_text, ids_text, list_text, members_text, proposal_text, set_text, tx_text, validated_text, validation_text}
+use Rattle.xl_told.specs.Words.{fullness_text, ids_text, list_text, members_text, proposal_text, tx_text, validated_text, validation_text}
 use Rattle.xl_wire.specs.declared.body.Body.{Body}
 use Rattle.xl_wire.specs.declared.body.Body.TheVariants as body
 use Rattle.xl_wire.specs.declared.decoding.Decoded.{Decoded}

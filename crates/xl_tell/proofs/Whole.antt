@@ -3,10 +3,8 @@ use Rattle.std.proofs.Common.{◌≡◌, ℕ, ◌-◌, ◌==◌, ◌+◌, Bool, 
 use Rattle.std.specs.Prelude.{cond, nat_lt, is_some, drop}
 use Rattle.std.proofs.lemmas.Bool.{cond_both}
 use Rattle.std.proofs.lemmas.Grind.{flat_map-append}
-use Rattle.xl_lines.specs.declared.limits.Limits.{Limits}
 use Rattle.xl_lines.specs.declared.limits.Overrun.{Overrun}
 use Rattle.xl_lines.specs.declared.limits.Overrun.TheVariants.{LongLine, ManyLines}
-use Rattle.xl_lines.specs.declared.machine.Verdict.{Verdict}
 use Rattle.xl_lines.specs.declared.machine.Verdict.TheVariants.{Refused as IsRefused}
 use Rattle.xl_lines.specs.Lines.{Line as InputLine, content, lines_of}
 use Rattle.xl_lines.specs.Rules.{Rules, Step, Told, closes, finds, goes_on, refuses as stops}
@@ -29,12 +27,12 @@ use Rattle.xl_world.specs.Parts.{outcomes_in, parts_of}
 use Rattle.xl_world.specs.Schedule.{after_event, outcomes}
 use Rattle.xl_world.specs.World.{World}
 use Rattle.xl_world.proofs.Partwise.{parts_are_the_whole}
-use Rattle.xl_tell.specs.Nodes.{all_opened, node_of, noted_at}
+use Rattle.xl_tell.specs.Nodes.{node_of, noted_at}
 use Rattle.xl_tell.specs.OwnLines.{LeavesReport, TellsReport, without_own}
-use Rattle.xl_tell.specs.Parts.{lines_of_parts, new_frames, new_holdings, part_lines}
-use Rattle.xl_tell.specs.Tellings.{after_answer, after_line, event_lines, opening, rules, telling_of, telling_soon}
+use Rattle.xl_tell.specs.Parts.{lines_of_parts, part_lines}
+use Rattle.xl_tell.specs.Tellings.{after_answer, after_line, event_lines, rules, telling_of, telling_soon}
 use Rattle.xl_tell.proofs.Holdings.{all_opened_own, changed_at_own, event_own, sent_lines_own}
-use Rattle.xl_tell.proofs.Leaving.{Leaves, both, neither, nothing, own_unless}
+use Rattle.xl_tell.proofs.Leaving.{Leaves, both, nothing, own_unless}
 use Rattle.xl_tell.proofs.Outcomes.{bad_stays, end_stays, outcomes_stay}
 
 -- AN EVENT

@@ -16,7 +16,11 @@ use xl_running::Running;
 use xl_sched::{Ask, Event, What};
 
 /// Opens the world, unless an event did, and tells what its nodes hold.
-pub fn open_world(alloc: Global, running: &mut Running, text: &mut String) -> Result<(), OutOfMemory>
+pub fn open_world(
+    alloc: Global,
+    running: &mut Running,
+    text: &mut String,
+) -> Result<(), OutOfMemory>
     ensures world { OnOk result (running.new ≡ in_world running.old (world_of running.old)) }
     ensures told { OnOk result (string_bytes text.new ≡ string_bytes text.old ++ opening running.old) }
 {

@@ -1,11 +1,10 @@
 -- delivery after delivery, and then the mark
-use Rattle.std.proofs.Common.{◌≡◌, ℕ, ◌+◌, List, [], ◌∷◌}
+use Rattle.std.proofs.Common.{◌+◌, [], ◌∷◌}
 use Rattle.std.specs.String.{string_bytes}
-use Rattle.xl_running.specs.Running.{Running, world_of}
-use Rattle.xl_sched.specs.declared.event.Event.{Event}
+use Rattle.xl_running.specs.Running.{world_of}
 use Rattle.xl_sched.specs.declared.event.What.TheVariants as what
 use Rattle.xl_world.specs.Parts.{delivery_at, drop_at, parts_at}
-use Rattle.xl_tell.proofs.Going.{Goes, deliveries_first, deliveries_left, goes_as, goes_further, is_open, leads_there, none_left, one_left, tells_all}
+use Rattle.xl_tell.proofs.Going.{deliveries_first, deliveries_left, goes_as, goes_further, is_open, leads_there, none_left, one_left, tells_all}
 use Rattle.xl_tell.proofs.events.tell_all.Goals as goal
 
 pub loop-place-init : goal.loop-place-init

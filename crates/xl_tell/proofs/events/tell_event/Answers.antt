@@ -3,7 +3,6 @@ use Rattle.std.proofs.Common.{◌≡◌, ℕ, List, ◌++◌, ap, sym, subst, �
 use Rattle.std.specs.Prelude.{OnOk}
 use Rattle.std.specs.String.{string_bytes}
 use Rattle.xl_running.specs.Running.{Running, in_world, world_of}
-use Rattle.xl_sched.specs.declared.event.Event.{Event}
 use Rattle.xl_sched.specs.declared.event.What.{What}
 use Rattle.xl_world.specs.Parts.{after_events, parts_at}
 use Rattle.xl_tell.specs.Parts.{lines_of_parts}

@@ -1,11 +1,10 @@
 -- timer after timer
-use Rattle.std.proofs.Common.{◌≡◌, ℕ, ◌+◌, List, [], ◌∷◌, drop, map, sym, ap, ◌∙◌}
+use Rattle.std.proofs.Common.{ℕ, ◌+◌, List, [], ◌∷◌, drop, map, ap, ◌∙◌}
 use Rattle.std.specs.String.{string_bytes}
-use Rattle.xl_running.specs.Running.{Running, world_of}
-use Rattle.xl_sched.specs.declared.event.Event.{Event}
+use Rattle.xl_running.specs.Running.{world_of}
 use Rattle.xl_sched.specs.declared.event.What.TheVariants as what
 use Rattle.xl_world.specs.Parts.{parts_at, timer_at}
-use Rattle.xl_tell.proofs.Going.{Goes, goes_as, goes_first, goes_further, is_open, leads_there, no_timer, one_timer, tells_all}
+use Rattle.xl_tell.proofs.Going.{goes_as, goes_first, goes_further, is_open, leads_there, no_timer, one_timer, tells_all}
 use Rattle.xl_tell.proofs.events.tell_timers.Goals as goal
 
 pub loop-node-init : goal.loop-node-init

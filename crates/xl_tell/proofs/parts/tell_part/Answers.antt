@@ -1,15 +1,13 @@
 -- what is told before it, of its outcomes, of what was sent, and of what is held
-use Rattle.std.proofs.Common.{◌≡◌, ℕ, List, ◌++◌, length, ap, sym, ◌∙◌}
+use Rattle.std.proofs.Common.{◌≡◌, ℕ, List, ◌++◌, length, ap, ◌∙◌}
 use Rattle.std.specs.String.{string_bytes}
 use Rattle.xl_replay.specs.Texts.{outcome_lines}
 use Rattle.xl_running.specs.Running.{Running, happens, world_of}
-use Rattle.xl_sched.specs.declared.event.Event.{Event}
 use Rattle.xl_sched.specs.declared.named.Named.{Named}
 use Rattle.xl_sched.specs.Reading.{Reading}
 use Rattle.xl_told.specs.Events.{event_line}
 use Rattle.xl_world.specs.declared.outcome.Outcome.{Outcome}
 use Rattle.xl_world.specs.Schedule.{after_event, outcomes}
-use Rattle.xl_world.specs.Sending.{Sent}
 use Rattle.xl_world.specs.World.{World}
 use Rattle.xl_tell.specs.Parts.{new_frames, new_holdings}
 use Rattle.xl_tell.proofs.Telling.{frames_written, holdings_written, stays_open}

@@ -1,5 +1,4 @@
 -- the world is open, and then the event is told part by part
-use Rattle.std.proofs.Common.{◌≡◌}
 use Rattle.std.specs.String.{string_bytes}
 use Rattle.xl_tell.proofs.Telling.{event_written, opened_so}
 use Rattle.xl_tell.proofs.narrator.Narrator.happen.Goals as goal
