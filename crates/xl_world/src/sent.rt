@@ -104,7 +104,7 @@ impl<'a> Sent<'a> {
     }
 
     /// Writes the frame with any tag to the front of a room, and answers how many bytes it has.
-    pub(crate) fn put(&self, room: &mut [u8; LONGEST_FRAME]) -> usize
+    pub fn put(&self, room: &mut [u8; LONGEST_FRAME]) -> usize
         ensures within { result ≤ longest_frame }
         ensures kept { self.now ≡ sent_as self.now.from self.now.to (take result room.new) }
     {
