@@ -4,6 +4,7 @@ Each way says what is good: of the ledgers that a node reports without strangers
 hundred, and its other figures stay below those named. tools/hostile_peers holds it against that."""
 import hmac
 import secrets
+import selectors
 import socket
 import struct
 import threading
@@ -22,6 +23,14 @@ def swallow(link):
             pass
     except OSError:
         pass
+
+
+def is_over(link):
+    """Whether the other end has let go of it. What it says is swallowed."""
+    try:
+        return not link.recv(65536)
+    except OSError:
+        return True
 
 
 class Stranger:
@@ -74,6 +83,18 @@ class Stranger:
             for call in calls:
                 call.close()
 
+    def quiet(self, link):
+        """Holds 64 calls that say nothing, and calls again for each that is let go. Good: 80 in a hundred reports."""
+        with selectors.DefaultSelector() as calls:
+            calls.register(link, selectors.EVENT_READ)
+            while True:
+                if len(calls.get_map()) < QUIET_CALLS:
+                    calls.register(socket.create_connection(self.address, 5), selectors.EVENT_READ)
+                for key, _ in calls.select(0.02):
+                    if is_over(key.fileobj):
+                        calls.unregister(key.fileobj)
+                        key.fileobj.close()
+
     def greeting(self, link):
         """Greets with 262,144 false headers. Good: 80 in a hundred reports, and 10,000 turns a minute; its memory grows by
         less than a megabyte a second."""
@@ -116,9 +137,10 @@ class Answering:
             link.close()
 
 
-# How many calls a stranger holds at once, which shows the beginnings of frames.
+# How many calls a stranger holds at once, which shows the beginnings of frames, or nothing.
 CALLS = 66
-CALLERS = ["silent", "calling", "flooding", "fronts", "greeting", "slow"]
+QUIET_CALLS = 64
+CALLERS = ["silent", "calling", "flooding", "fronts", "quiet", "greeting", "slow"]
 STRANGERS = [*CALLERS, "answering"]
 
 

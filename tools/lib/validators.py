@@ -34,12 +34,14 @@ def free_ports(count):
 
 
 class Pairs:
-    """A key and an address for each two nodes, of which the first listens. Members that are this program come behind the
-    nodes, and dial all. The nodes dial at fronts, if these are asked for, behind which the addresses stand."""
+    """A key and an address for each two nodes, of which the first listens, and a transaction that all submit. Members that
+    are this program come behind the nodes, and dial all. The nodes dial at fronts, if these are asked for, behind which the
+    addresses stand."""
 
     def __init__(self, count, others, away=None, has_fronts=False):
         self.of = {}
         self.fronts = {}
+        self.transaction = secrets.token_hex(32)
         members = count + others
         ports = free_ports(members * (members - 1) + 1)
         self.away = (away, ("127.0.0.1", ports.pop())) if away else None
@@ -131,7 +133,7 @@ def settings(me, members, pairs, trust, milliseconds, asked):
         f"run_ms = {milliseconds}",
         f"turns = {asked.turns}",
         "limit = 262144",
-        f'submit = ["{secrets.token_hex(32)}"]',
+        f'submit = ["{pairs.transaction}"]',
         *(["journal = true"] if asked.journal else []),
         "",
     ]

@@ -59,7 +59,7 @@ fn who_has_nothing_to_say_is_served(rt: HostRuntime) -> Result<(), Fail> {
 }
 
 #[test]
-fn who_has_nothing_to_say_comes_in_its_turn(rt: HostRuntime) -> Result<(), Fail> {
+fn who_has_nothing_to_say_comes_behind_those_who_show_a_frame(rt: HostRuntime) -> Result<(), Fail> {
     let clock = SystemClock::new(rt.clone()?);
     let Some((mut listening, mut gone)) = pair(&rt)? else {
         return Err(Fail::from("no link on loopback"));
@@ -73,12 +73,59 @@ fn who_has_nothing_to_say_comes_in_its_turn(rt: HostRuntime) -> Result<(), Fail>
     assert!(rt; gives(&clock, &mut first, &front()));
     assert!(rt; gives(&clock, &mut second, &front()));
     let mut room = [0; FRAME];
-    // For two seconds it gives way to whoever has shown a frame.
-    assert_eq!(rt; takes(&clock, &mut listening, &mut room), FRAME);
-    listening.judged(Judgement::Forged);
-    clock.wait(2000);
+    for _ in 0..2 {
+        assert_eq!(rt; takes(&clock, &mut listening, &mut room), FRAME);
+        listening.judged(Judgement::Forged);
+        clock.wait(2000);
+    }
     assert!(rt; opens(&clock, &mut listening));
     assert!(rt; listening.read(&mut room) == LinkRead::Idle);
+    Ok(())
+}
+
+#[test]
+fn who_says_nothing_makes_room_for_who_says_nothing_too(rt: HostRuntime) -> Result<(), Fail> {
+    let clock = SystemClock::new(rt.clone()?);
+    let Some((mut listening, mut first)) = pair(&rt)? else {
+        return Err(Fail::from("no link on loopback"));
+    };
+    let mut second = another(&rt, &listening)?;
+    assert!(rt; opens(&clock, &mut first));
+    assert!(rt; opens(&clock, &mut listening));
+    assert!(rt; opens(&clock, &mut second));
+    let mut room = [0; FRAME];
+    for _ in 0..9 {
+        if listening.read(&mut room) == LinkRead::End {
+            break;
+        }
+    }
+    assert!(rt; listening.read(&mut room) == LinkRead::End);
+    assert!(rt; opens(&clock, &mut listening));
+    assert!(rt; second.write(&front()) == Wrote::Took(FRAME));
+    assert!(rt; listening.read(&mut room) == LinkRead::Got(FRAME));
+    Ok(())
+}
+
+#[test]
+fn who_says_nothing_keeps_nobody_out(rt: HostRuntime) -> Result<(), Fail> {
+    let clock = SystemClock::new(rt.clone()?);
+    let Some((mut listening, mut gone)) = pair(&rt)? else {
+        return Err(Fail::from("no link on loopback"));
+    };
+    assert!(rt; opens(&clock, &mut gone));
+    drop(gone);
+    let mut strangers = Vec::new(rt.alloc());
+    for _ in 0..12 {
+        let mut stranger = another(&rt, &listening)?;
+        assert!(rt; opens(&clock, &mut stranger));
+        strangers.push(stranger)?;
+    }
+    let mut member = another(&rt, &listening)?;
+    assert!(rt; gives(&clock, &mut member, &front()));
+    clock.wait(50);
+    assert!(rt; opens(&clock, &mut listening));
+    let mut room = [0; FRAME];
+    assert!(rt; listening.read(&mut room) == LinkRead::Got(FRAME));
     Ok(())
 }
 

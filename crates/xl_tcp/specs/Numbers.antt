@@ -51,8 +51,12 @@ patience_with_known = 300000
 abbrev pub patience_with_caller : ℕ
 patience_with_caller = 10000
 
-abbrev pub patience_when_ready : ℕ
-patience_when_ready = 60000
+abbrev pub patience_when_shown : ℕ
+patience_when_shown = 60000
+
+-- with nothing sent, until a peer that tells nothing makes room
+abbrev pub patience_with_quiet : ℕ
+patience_with_quiet = 2000
 
 -- ---- how long a write waits, in waits of 50 milliseconds, and how many bytes are read ahead
 

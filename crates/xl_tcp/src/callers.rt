@@ -1,5 +1,15 @@
-ghost use Rattle.std.specs.Prelude.{◌≡◌, ◌≤◌, IfOk, length};
-ghost use Rattle.xl_tcp.specs.Callers.{is_ready, makes_room, may_stay, standing_by};
+ghost use Rattle.std.specs.Prelude.{◌≡◌, ◌≤◌, IfOk, length, position};
+ghost use Rattle.std.specs.List.{list_any};
+ghost use Rattle.xl_tcp.specs.Callers.{
+  has_shown,
+  is_due,
+  is_quiet,
+  makes_room,
+  may_stay,
+  room_at,
+  served_at,
+  standing_by,
+};
 
 use crate::answers::{is_absence, is_late};
 use std::alloc::Global;
@@ -20,17 +30,17 @@ const AT_ONCE: usize = 256;
 const PATIENCE: Millis = 10_000;
 
 /// How long one may wait that has.
-const PATIENCE_WHEN_READY: Millis = 60_000;
+const PATIENCE_WHEN_SHOWN: Millis = 60_000;
 
-/// After so long one that has sent nothing is served in its turn: it may be a member that has nothing to say.
+/// After so long whoever has sent nothing ends the time of a peer that tells nothing either.
 const QUIET: Millis = 2000;
 
 /// Callers that aren't served yet, in the order in which they came. Their streams don't wait.
 ///
-/// One is ready as soon as it has sent a whole frame, and if it has sent nothing for two seconds, since a member may have
-/// nothing to say. Before that it is served while nobody is ready. One is let go if it is gone, if what it has sent
-/// begins no frame, if it has shown no frame after ten seconds, and if it wasn't served within a minute. If as many wait
-/// as may, the first that has sent less than a frame makes room for whoever calls.
+/// Those who have shown a whole frame are served first. One that has sent nothing is served while nobody has, since a
+/// member may have nothing to say. One is let go if it is gone, if what it has sent begins no frame, if it has shown no
+/// frame after ten seconds, and if it wasn't served within a minute. If as many wait as may, whoever calls takes the
+/// place of one that has shown no frame: of the first that has sent a part of one, or else of the first that is quiet.
 #[derive(Drop)]
 pub(crate) struct Callers<S> {
     waiting: VecDeque<Caller<S>>,
@@ -49,8 +59,22 @@ enum Standing {
     Quiet,
     /// It has sent less than a whole frame.
     Begun,
-    Ready,
+    /// It has shown a whole frame.
+    Shown,
 }
+
+/// How a caller stands, and for how many milliseconds it has waited.
+#[derive(Clone, Copy)]
+struct Seen {
+    standing: Standing,
+    waited: Millis,
+}
+
+/// What is seen at a place at which nobody waits.
+const NOBODY: Seen = Seen {
+    standing: Standing::Gone,
+    waited: 0,
+};
 
 impl<S: OpenStream + Drop> Callers<S> {
     /// Nobody yet.
@@ -68,7 +92,7 @@ impl<S: OpenStream + Drop> Callers<S> {
     ) -> io::Result<()> {
         self.waiting.retain(|caller| may_wait(caller, now));
         for _ in 0..AT_ONCE {
-            if self.is_full() {
+            if self.is_full(now) {
                 break;
             }
             match listener.accept() {
@@ -82,8 +106,8 @@ impl<S: OpenStream + Drop> Callers<S> {
     }
 
     /// As many wait as may, and none makes room.
-    fn is_full(&self) -> bool {
-        self.waiting.len() >= MOST && self.first_that_makes_room().is_none()
+    fn is_full(&self, now: Millis) -> bool {
+        self.waiting.len() >= MOST && room_at(&self.seen(now)).is_none()
     }
 
     fn take_in(&mut self, stream: S, now: Millis) -> io::Result<()> {
@@ -92,90 +116,137 @@ impl<S: OpenStream + Drop> Callers<S> {
             return Ok(());
         }
         if self.waiting.len() >= MOST {
-            self.let_one_go();
+            self.let_one_go(now);
         }
         self.waiting.push_back(Caller { stream, came: now })?;
         Ok(())
     }
 
-    fn let_one_go(&mut self) {
-        if let Some(place) = self.first_that_makes_room() {
+    fn let_one_go(&mut self, now: Millis) {
+        if let Some(place) = room_at(&self.seen(now)) {
             self.waiting.remove(place);
         }
     }
 
-    fn first_that_makes_room(&self) -> Option<usize> {
-        self.waiting
-            .iter()
-            .position(|caller| makes_room(standing_of(&caller.stream)))
-    }
-
-    /// The first that is ready, and if none is, the first that has sent nothing. It waits no longer here.
+    /// Whoever is served next. It waits no longer here.
     pub(crate) fn next(&mut self, now: Millis) -> Option<S> {
-        let place = match self.first_ready(now) {
-            None => self.first_quiet(),
-            ready => ready,
-        };
-        let caller = self.waiting.remove(place?)?;
+        let place = served_at(&self.seen(now))?;
+        let caller = self.waiting.remove(place)?;
         Some(caller.stream)
     }
 
-    pub(crate) fn is_any_ready(&self, now: Millis) -> bool {
-        self.first_ready(now).is_some()
+    /// One waits for whom a peer that tells nothing makes room.
+    pub(crate) fn is_any_due(&self, now: Millis) -> bool {
+        is_any_due(&self.seen(now))
     }
 
-    fn first_ready(&self, now: Millis) -> Option<usize> {
-        self.waiting.iter().position(|caller| is_ready(
-            standing_of(&caller.stream),
-            waited(caller, now),
-        ))
-    }
-
-    fn first_quiet(&self) -> Option<usize> {
-        self.waiting
-            .iter()
-            .position(|caller| standing_of(&caller.stream) == Standing::Quiet)
+    /// How they stand, in their order.
+    fn seen(&self, now: Millis) -> [Seen; MOST] {
+        let mut seen = [NOBODY; MOST];
+        for (place, caller) in seen.iter_mut().zip(self.waiting.iter()) {
+            *place = seen_now(caller, now);
+        }
+        seen
     }
 }
 
 fn may_wait<S: OpenStream>(caller: &Caller<S>, now: Millis) -> bool {
-    may_stay(standing_of(&caller.stream), waited(caller, now))
+    may_stay(seen_now(caller, now))
 }
 
-/// For how many milliseconds it has waited.
-fn waited<S>(caller: &Caller<S>, now: Millis) -> Millis {
-    now.saturating_sub(caller.came)
-}
-
-/// One that stands so is served in its turn, after so many milliseconds.
-fn is_ready(standing: Standing, waited: Millis) -> bool
-    ensures { result ≡ is_ready standing waited }
-{
-    match standing {
-        Standing::Gone | Standing::Begun => false,
-        Standing::Quiet => waited >= QUIET,
-        Standing::Ready => true,
+fn seen_now<S: OpenStream>(caller: &Caller<S>, now: Millis) -> Seen {
+    Seen {
+        standing: standing_of(&caller.stream),
+        waited: now.saturating_sub(caller.came),
     }
 }
 
-/// One that stands so is let go if another calls and no place is left.
-fn makes_room(standing: Standing) -> bool
-    ensures { result ≡ makes_room standing }
+/// The place of whoever is served next: the first that has shown a frame, and if none has, the first that is quiet.
+fn served_at(seen: &[Seen]) -> Option<usize>
+    ensures { result ≡ served_at seen.now }
 {
-    match standing {
+    first_shown(seen).or(first_quiet(seen))
+}
+
+/// The place of whoever is let go if another calls: the first that has shown a part of a frame or is gone, and if none
+/// has, the first that is quiet.
+fn room_at(seen: &[Seen]) -> Option<usize>
+    ensures { result ≡ room_at seen.now }
+{
+    first_that_makes_room(seen).or(first_quiet(seen))
+}
+
+fn first_shown(seen: &[Seen]) -> Option<usize>
+    ensures { result ≡ position has_shown seen.now }
+{
+    seen.iter().position(|it| has_shown(*it))
+}
+
+fn first_quiet(seen: &[Seen]) -> Option<usize>
+    ensures { result ≡ position is_quiet seen.now }
+{
+    seen.iter().position(|it| is_quiet(*it))
+}
+
+fn first_that_makes_room(seen: &[Seen]) -> Option<usize>
+    ensures { result ≡ position makes_room seen.now }
+{
+    seen.iter().position(|it| makes_room(*it))
+}
+
+fn is_any_due(seen: &[Seen]) -> bool
+    ensures { result ≡ list_any is_due seen.now }
+{
+    seen.iter().any(|it| is_due(*it))
+}
+
+fn has_shown(seen: Seen) -> bool
+    ensures { result ≡ has_shown seen }
+{
+    match seen.standing {
+        Standing::Gone | Standing::Quiet | Standing::Begun => false,
+        Standing::Shown => true,
+    }
+}
+
+fn is_quiet(seen: Seen) -> bool
+    ensures { result ≡ is_quiet seen }
+{
+    match seen.standing {
+        Standing::Gone | Standing::Begun | Standing::Shown => false,
+        Standing::Quiet => true,
+    }
+}
+
+/// It is let go before anybody else, if another calls and no place is left.
+fn makes_room(seen: Seen) -> bool
+    ensures { result ≡ makes_room seen }
+{
+    match seen.standing {
         Standing::Gone | Standing::Begun => true,
-        Standing::Quiet | Standing::Ready => false,
+        Standing::Quiet | Standing::Shown => false,
     }
 }
 
-/// One that stands so may wait on, after so many milliseconds.
-fn may_stay(standing: Standing, waited: Millis) -> bool
-    ensures { result ≡ may_stay standing waited }
+/// A peer that tells nothing makes room for it.
+fn is_due(seen: Seen) -> bool
+    ensures { result ≡ is_due seen }
 {
-    match standing {
+    match seen.standing {
+        Standing::Gone | Standing::Begun => false,
+        Standing::Quiet => seen.waited >= QUIET,
+        Standing::Shown => true,
+    }
+}
+
+/// It may wait on.
+fn may_stay(seen: Seen) -> bool
+    ensures { result ≡ may_stay seen }
+{
+    match seen.standing {
         Standing::Gone => false,
-        Standing::Quiet | Standing::Begun => waited < PATIENCE,
-        Standing::Ready => waited < PATIENCE_WHEN_READY,
+        Standing::Quiet | Standing::Begun => seen.waited < PATIENCE,
+        Standing::Shown => seen.waited < PATIENCE_WHEN_SHOWN,
     }
 }
 
@@ -194,7 +265,7 @@ fn standing_by(peeked: io::Result<usize>, front: &[u8]) -> Standing
     match peeked {
         Ok(0) => Standing::Gone,
         Ok(count) => match split(&front[..count]) {
-            Parted::Whole(_) => Standing::Ready,
+            Parted::Whole(_) => Standing::Shown,
             Parted::Need(_) => Standing::Begun,
             Parted::Refused(_) => Standing::Gone,
         },

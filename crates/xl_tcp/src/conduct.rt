@@ -46,12 +46,12 @@ const SILENCE: Millis = 60_000;
 /// The same until the first one comes: where it was dialled, others may be served before.
 const SILENCE_AT_FIRST: Millis = 300_000;
 
-/// For how long it may tell nothing while another is ready, once it has told something, and before.
+/// For how long it may tell nothing while another is due, once it has told something, and before.
 const PATIENCE: Millis = 20_000;
 
 const PATIENCE_AT_FIRST: Millis = 2000;
 
-/// For how long its frames may be known ones alone while another is ready.
+/// For how long its frames may be known ones alone while another is due.
 const PATIENCE_WITH_KNOWN: Millis = 300_000;
 
 /// What a link's members may greet with, one connection after the other.

@@ -1,6 +1,6 @@
 ghost use Rattle.std.specs.Prelude.{◌≡◌};
-ghost use Rattle.xl_tcp.specs.Numbers.{bytes_ahead, bytes_ahead_of_others, each_frame, each_header, epoch_millis, frames_at_once, frames_each_milli, headers_at_once, headers_each_milli, longest_silence, longest_silence_at_first, patience, patience_at_first, patience_when_ready, patience_with_caller, patience_with_known, waits_at_first, waits_for_member};
-ghost use Rattle.xl_tcp.specs.declared.callers.TheConstants.{PATIENCE as CALLERS_PATIENCE, PATIENCE_WHEN_READY};
+ghost use Rattle.xl_tcp.specs.Numbers.{bytes_ahead, bytes_ahead_of_others, each_frame, each_header, epoch_millis, frames_at_once, frames_each_milli, headers_at_once, headers_each_milli, longest_silence, longest_silence_at_first, patience, patience_at_first, patience_when_shown, patience_with_caller, patience_with_known, patience_with_quiet, waits_at_first, waits_for_member};
+ghost use Rattle.xl_tcp.specs.declared.callers.TheConstants.{PATIENCE as CALLERS_PATIENCE, PATIENCE_WHEN_SHOWN, QUIET};
 ghost use Rattle.xl_tcp.specs.declared.clock.TheConstants.{EPOCH_MILLIS};
 ghost use Rattle.xl_tcp.specs.declared.conduct.TheConstants.{EACH_FRAME, EACH_HEADER, FRAMES, FRAMES_EACH_MILLI, HEADERS, HEADERS_EACH_MILLI, PATIENCE, PATIENCE_AT_FIRST, PATIENCE_WITH_KNOWN, SILENCE, SILENCE_AT_FIRST};
 ghost use Rattle.xl_tcp.specs.declared.connection.TheConstants.{MOST_AHEAD, MOST_AHEAD_OF_OTHERS, MOST_WAITS, MOST_WAITS_AT_FIRST};
@@ -19,7 +19,8 @@ pub fn law_of_constants()
     ensures patience_at_first { PATIENCE_AT_FIRST ≡ patience_at_first }
     ensures known { PATIENCE_WITH_KNOWN ≡ patience_with_known }
     ensures callers { CALLERS_PATIENCE ≡ patience_with_caller }
-    ensures ready { PATIENCE_WHEN_READY ≡ patience_when_ready }
+    ensures shown { PATIENCE_WHEN_SHOWN ≡ patience_when_shown }
+    ensures quiet { QUIET ≡ patience_with_quiet }
     ensures waits { MOST_WAITS ≡ waits_for_member }
     ensures waits_at_first { MOST_WAITS_AT_FIRST ≡ waits_at_first }
     ensures ahead { MOST_AHEAD ≡ bytes_ahead }

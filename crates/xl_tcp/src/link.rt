@@ -22,10 +22,10 @@ const PATIENCE: u64 = 900;
 
 /// A link to one member over TCP, with one connection at a time. What it gives and takes isn't told.
 ///
-/// An opening lets go of the connection before. It dials, and waits 900 milliseconds for the answer. Or it takes the
-/// first ready one of those who dialled in, or if none is ready the first that has sent nothing, and doesn't wait. One
-/// is ready that has sent a whole frame, or nothing for two seconds. Whoever else has dialled waits behind it. It answers
-/// NotYet if nobody is there: the call is refused, isn't answered in time or can't reach the machine, or nobody calls.
+/// An opening lets go of the connection before. It dials, and waits 900 milliseconds for the answer. Or it takes one of
+/// those who dialled in, and doesn't wait: the first that has shown a whole frame, or if none has the first that has sent
+/// nothing. Whoever else has dialled waits behind it. It answers NotYet if nobody is there: the call is refused, isn't
+/// answered in time or can't reach the machine, or nobody calls.
 ///
 /// A read waits a second for a byte, and then 50 milliseconds for more. A write waits until the system takes a byte, and
 /// reads ahead meanwhile what the peer says, for later reads; it fails if for 900 milliseconds no byte went either way.
@@ -34,9 +34,10 @@ const PATIENCE: u64 = 900;
 ///
 /// Anybody can call or answer, and the link knows no key. So it gives one frame of a peer, and waits until that is
 /// judged. It lets go of whoever forged a frame, and of one that has sent no whole frame for a minute, or none at all for
-/// five. While another is ready, a peer has 20 seconds from the latest fresh frame on, and two seconds at first; a
-/// greeting's headers count too, for five minutes. A read then says that no more bytes come. What comes faster than a
-/// member says things is held back: a read answers Idle until it may be given.
+/// five. While another is due, a peer has 20 seconds from the latest fresh frame on, and two seconds at first; a
+/// greeting's headers count too, for five minutes. A read then says that no more bytes come. Another is due that has shown
+/// a frame, or has sent nothing for two seconds. What comes faster than a member says things is held back: a read answers
+/// Idle until it may be given.
 #[derive(Drop)]
 pub struct TcpLink<R: Net> {
     alloc: Global,
@@ -111,20 +112,20 @@ impl<R: Net + Clock + Drop> TcpLink<R> {
             // What has come while something was written to it counts.
             _ if conduct.is_silent(now) && !self.catches_up(now)? => Ok(true),
             Manner::New => Ok(
-                conduct.is_over(now) && self.is_any_ready(now)? && !self.catches_up(now)?,
+                conduct.is_over(now) && self.is_any_due(now)? && !self.catches_up(now)?,
             ),
-            _ => Ok(conduct.is_over(now) && self.is_any_ready(now)?),
+            _ => Ok(conduct.is_over(now) && self.is_any_due(now)?),
         }
     }
 
     /// Another has called, and shown a frame or sent nothing for two seconds.
-    fn is_any_ready(&mut self, now: Millis) -> io::Result<bool>
+    fn is_any_due(&mut self, now: Millis) -> io::Result<bool>
         ensures faults { self.new.faults ≡ self.old.faults }
     {
         if let Address::Bound(listener) = &self.address {
             self.callers.admit(listener, now)?;
         }
-        Ok(self.callers.is_any_ready(now))
+        Ok(self.callers.is_any_due(now))
     }
 
     /// What has come meanwhile may be given.
