@@ -25,6 +25,22 @@ def swallow(link):
         pass
 
 
+def begun(address):
+    """A call that isn't waited for."""
+    call = socket.socket()
+    call.setblocking(False)
+    call.connect_ex(address)
+    return call
+
+
+def says(link, said):
+    """Whether it could be said."""
+    try:
+        return link.send(said) == len(said)
+    except OSError:
+        return False
+
+
 def is_over(link):
     """Whether the other end has let go of it. What it says is swallowed."""
     try:
@@ -85,15 +101,27 @@ class Stranger:
 
     def quiet(self, link):
         """Holds 64 calls that say nothing, and calls again for each that is let go. Good: 80 in a hundred reports."""
+        self.hold(link, 64, b"")
+
+    def throng(self, link):
+        """Holds 200 calls that say the first five bytes of a frame, and calls again for each that is let go. They are
+        more than the system's queue has places for. Good: 80 in a hundred reports."""
+        self.hold(link, 200, self.frame[:5])
+
+    def hold(self, link, count, said):
+        """Holds so many calls, of which each says this."""
         with selectors.DefaultSelector() as calls:
-            calls.register(link, selectors.EVENT_READ)
+            calls.register(link, selectors.EVENT_WRITE)
             while True:
-                if len(calls.get_map()) < QUIET_CALLS:
-                    calls.register(socket.create_connection(self.address, 5), selectors.EVENT_READ)
-                for key, _ in calls.select(0.02):
-                    if is_over(key.fileobj):
+                while len(calls.get_map()) < count:
+                    calls.register(begun(self.address), selectors.EVENT_WRITE)
+                for key, event in calls.select():
+                    if event == selectors.EVENT_WRITE and says(key.fileobj, said):
+                        calls.modify(key.fileobj, selectors.EVENT_READ)
+                    elif event == selectors.EVENT_WRITE or is_over(key.fileobj):
                         calls.unregister(key.fileobj)
                         key.fileobj.close()
+                time.sleep(0.02)
 
     def greeting(self, link):
         """Greets with 262,144 false headers. Good: 80 in a hundred reports, and 10,000 turns a minute; its memory grows by
@@ -139,8 +167,7 @@ class Answering:
 
 # How many calls a stranger holds at once, which shows the beginnings of frames, or nothing.
 CALLS = 66
-QUIET_CALLS = 64
-CALLERS = ["silent", "calling", "flooding", "fronts", "quiet", "greeting", "slow"]
+CALLERS = ["silent", "calling", "flooding", "fronts", "quiet", "throng", "greeting", "slow"]
 STRANGERS = [*CALLERS, "answering"]
 
 

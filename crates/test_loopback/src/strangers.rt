@@ -175,14 +175,59 @@ fn a_peer_that_was_dialled_is_judged_too(rt: HostRuntime) -> Result<(), Fail> {
     let Some((mut listening, mut dialling)) = pair(&rt)? else {
         return Err(Fail::from("no link on loopback"));
     };
-    assert!(rt; opens(&clock, &mut dialling));
-    assert!(rt; opens(&clock, &mut listening));
-    gives_frames(&mut listening, &front(), 3);
+    assert!(rt; gives(&clock, &mut dialling, &front()));
     let mut room = [0; 2 * FRAME];
+    assert_eq!(rt; takes(&clock, &mut listening, &mut room[..FRAME]), FRAME);
+    listening.judged(Judgement::Known);
+    gives_frames(&mut listening, &front(), 3);
     assert!(rt; dialling.read(&mut room) == LinkRead::Got(FRAME));
     assert!(rt; dialling.read(&mut room) == LinkRead::Idle);
     dialling.judged(Judgement::Forged);
     assert!(rt; dialling.read(&mut room) == LinkRead::End);
+    Ok(())
+}
+
+#[test]
+fn what_a_forger_is_not_told_is_left_for_the_next(rt: HostRuntime) -> Result<(), Fail> {
+    let clock = SystemClock::new(rt.clone()?);
+    let Some((mut listening, mut stranger)) = pair(&rt)? else {
+        return Err(Fail::from("no link on loopback"));
+    };
+    let mut member = another(&rt, &listening)?;
+    assert!(rt; gives(&clock, &mut stranger, &front()));
+    assert!(rt; opens(&clock, &mut listening));
+    // Each caller is greeted with the headers anew.
+    assert!(rt; listening.write(&header(1)) == Wrote::Took(164));
+    assert!(rt; listening.write(&front()) == Wrote::Took(FRAME));
+    let mut room = [0; 164];
+    assert!(rt; listening.read(&mut room) == LinkRead::Got(FRAME));
+    listening.judged(Judgement::Forged);
+    assert!(rt; listening.read(&mut room) == LinkRead::End);
+    assert!(rt; gives(&clock, &mut member, &front()));
+    assert_eq!(rt; takes(&clock, &mut listening, &mut room[..FRAME]), FRAME);
+    let told = stranger.read(&mut room);
+    assert!(rt; told == LinkRead::End || told == LinkRead::Failed);
+    listening.judged(Judgement::Known);
+    assert!(rt; listening.read(&mut room) == LinkRead::Idle);
+    assert!(rt; member.read(&mut room) == LinkRead::Got(FRAME));
+    assert!(rt; room[..FRAME] == front());
+    Ok(())
+}
+
+#[test]
+fn who_shows_nothing_for_a_second_is_told(rt: HostRuntime) -> Result<(), Fail> {
+    let clock = SystemClock::new(rt.clone()?);
+    let Some((mut listening, mut dialling)) = pair(&rt)? else {
+        return Err(Fail::from("no link on loopback"));
+    };
+    assert!(rt; opens(&clock, &mut dialling));
+    assert!(rt; opens(&clock, &mut listening));
+    assert!(rt; listening.write(&front()) == Wrote::Took(FRAME));
+    let mut room = [0; FRAME];
+    for _ in 0..2 {
+        assert!(rt; listening.read(&mut room) == LinkRead::Idle);
+    }
+    assert!(rt; dialling.read(&mut room) == LinkRead::Got(FRAME));
     Ok(())
 }
 
@@ -237,6 +282,14 @@ fn fronts_of_frames_keep_nobody_out(rt: HostRuntime) -> Result<(), Fail> {
     Ok(())
 }
 
+/// A frame with a header of that sequence.
+fn header(sequence: u32) -> [u8; 164] {
+    let mut header = [0; 164];
+    header[..6].copy_from_slice(b"XL\x01\x03\x00\x76");
+    header[14..18].copy_from_slice(&sequence.to_be_bytes());
+    header
+}
+
 #[test]
 fn a_greeting_may_be_long(rt: HostRuntime) -> Result<(), Fail> {
     let clock = SystemClock::new(rt.clone()?);
@@ -244,11 +297,8 @@ fn a_greeting_may_be_long(rt: HostRuntime) -> Result<(), Fail> {
         return Err(Fail::from("no link on loopback"));
     };
     assert!(rt; opens(&clock, &mut dialling));
-    let mut header = [0; 164];
-    header[..6].copy_from_slice(b"XL\x01\x03\x00\x76");
     for sequence in 1..=1000u32 {
-        header[14..18].copy_from_slice(&sequence.to_be_bytes());
-        assert!(rt; dialling.write(&header) == Wrote::Took(164));
+        assert!(rt; dialling.write(&header(sequence)) == Wrote::Took(164));
     }
     assert!(rt; opens(&clock, &mut listening));
     let mut room = [0; 164];

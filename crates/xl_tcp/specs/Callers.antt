@@ -1,5 +1,5 @@
--- How those who have called stand, who of them is served, and who may wait on. Source: this project's own, so that nobody
--- who shows no frame keeps a member out that does.
+-- How those who have called stand, who of them is served, and who may wait on. Source: this project's own, so that
+-- nobody who shows no frame keeps a member out that does.
 use Rattle.std.specs.Prelude.{ℕ, ◌==◌, Bool, true, false, nat_le, nat_lt, List, take, position, Option, Result, Ok, Err, if◌then◌else◌}
 use Rattle.std.specs.Option.{option_or}
 use Rattle.std.specs.IoError.{error_kind}
@@ -49,11 +49,13 @@ shows_less other = false
 abbrev pub makes_room : Seen → Bool
 makes_room seen = shows_less seen.standing
 
--- the first that has shown a frame is served; if none has, the first that is quiet, since a member may have nothing to say
+-- the first that has shown a frame is served; if none has, the first that is quiet, since a member may have nothing to
+-- say
 abbrev pub served_at : List Seen → Option ℕ
 served_at seen = option_or (position has_shown seen) (position is_quiet seen)
 
--- the first that shows less makes room for another; if none does, the first that is quiet; and none that has shown a frame
+-- the first that shows less makes room for another; if none does, the first that is quiet; and none that has shown a
+-- frame
 abbrev pub room_at : List Seen → Option ℕ
 room_at seen = option_or (position makes_room seen) (position is_quiet seen)
 

@@ -74,6 +74,13 @@ bytes_ahead = 48000000
 abbrev pub bytes_ahead_of_others : ℕ
 bytes_ahead_of_others = 16000000
 
+-- so many are withheld from a caller at most, and so many are left for the next
+abbrev pub bytes_withheld : ℕ
+bytes_withheld = 4000000
+
+abbrev pub bytes_left : ℕ
+bytes_left = 65536
+
 -- ---- the clock
 
 -- how long after 1970 the year 2000 began

@@ -14,8 +14,9 @@ ghost use Rattle.xl_tcp.specs.Callers.{
 use crate::answers::{is_absence, is_late};
 use std::alloc::Global;
 use std::collections::VecDeque;
-use std::io;
 use std::net::{OpenListener, OpenStream};
+use std::time::{Clock, Duration};
+use std::{io, thread};
 use xl_base::Millis;
 use xl_wire::{LONGEST_FRAME, Parted, split};
 
@@ -25,6 +26,14 @@ const MOST: usize = 4;
 
 /// How many calls are taken at once.
 const AT_ONCE: usize = 256;
+
+/// So many that come at once are a throng. The next ones are awaited for so many milliseconds, and so often: 900
+/// milliseconds, as a dial waits.
+const THRONG: usize = 8;
+
+const THRONG_WAITS: u64 = 10;
+
+const THRONGS: u32 = 90;
 
 /// How long a caller may wait until it has shown a whole frame, in milliseconds.
 const PATIENCE: Millis = 10_000;
@@ -84,25 +93,42 @@ impl<S: OpenStream + Drop> Callers<S> {
         }
     }
 
-    /// Lets go of some who wait, and takes in who has called since.
+    /// Lets go of some who wait, and takes in who has called since. While a throng comes of whom none shows a frame, it
+    /// takes in those who come next too: they would fill the system's queue, and a member would find no place there.
+    pub(crate) fn admit_throng<L: OpenListener<Stream = S>, C: Clock>(
+        &mut self,
+        listener: &L,
+        clock: &C,
+        now: Millis,
+    ) -> io::Result<()> {
+        for _ in 0..THRONGS {
+            if self.admit(listener, now)? < THRONG || has_any_shown(&self.seen(now)) {
+                break;
+            }
+            thread::sleep(clock, Duration::from_millis(THRONG_WAITS));
+        }
+        Ok(())
+    }
+
+    /// Lets go of some who wait, takes in who has called since, and says how many have.
     pub(crate) fn admit<L: OpenListener<Stream = S>>(
         &mut self,
         listener: &L,
         now: Millis,
-    ) -> io::Result<()> {
+    ) -> io::Result<usize> {
         self.waiting.retain(|caller| may_wait(caller, now));
-        for _ in 0..AT_ONCE {
+        for came in 0..AT_ONCE {
             if self.is_full(now) {
-                break;
+                return Ok(came);
             }
             match listener.accept() {
                 Ok((stream, _)) => self.take_in(stream, now)?,
-                Err(error) if is_late(error.kind()) => break,
+                Err(error) if is_late(error.kind()) => return Ok(came),
                 Err(error) if is_absence(error.kind()) => {}
                 Err(error) => return Err(error),
             }
         }
-        Ok(())
+        Ok(AT_ONCE)
     }
 
     /// As many wait as may, and none makes room.
@@ -192,6 +218,12 @@ fn first_that_makes_room(seen: &[Seen]) -> Option<usize>
     ensures { result ≡ position makes_room seen.now }
 {
     seen.iter().position(|it| makes_room(*it))
+}
+
+fn has_any_shown(seen: &[Seen]) -> bool
+    ensures { result ≡ list_any has_shown seen.now }
+{
+    seen.iter().any(|it| has_shown(*it))
 }
 
 fn is_any_due(seen: &[Seen]) -> bool

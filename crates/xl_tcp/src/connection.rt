@@ -2,6 +2,7 @@ ghost use Rattle.std.specs.Prelude.{◌≡◌, ◌≤◌, nat_lt, IfOk, length};
 ghost use Rattle.xl_tcp.specs.Conduct.{after_judgement};
 ghost use Rattle.xl_tcp.specs.Granting.{granted_of};
 ghost use Rattle.xl_tcp.specs.Waits.{most_ahead, most_waits};
+ghost use Rattle.xl_tcp.specs.Withholding.{withholds};
 
 use crate::ahead::Ahead;
 use crate::answers::is_late;
@@ -10,8 +11,8 @@ use crate::moments::millis_of;
 use std::alloc::Global;
 use std::io::{self, ErrorKind, Read, Write};
 use std::net::OpenStream;
-use std::thread;
 use std::time::{Clock, Duration};
+use std::{mem, thread};
 use xl_base::Millis;
 use xl_links::Judgement;
 use xl_wire::{Parted, split};
@@ -52,6 +53,9 @@ const MOST_AHEAD: usize = 48_000_000;
 /// The same of a peer on no list, whose frames are all refused, and which is heard slowly.
 const MOST_AHEAD_OF_OTHERS: usize = 16_000_000;
 
+/// How many bytes are withheld from a caller at most: a greeting with some 24,000 headers.
+const MOST_WITHHELD: usize = 4_000_000;
+
 /// A connection with a peer. What it gives and takes isn't told.
 ///
 /// What comes is read ahead, and given frame by frame, as its conduct allows. A read waits a second for a byte, and once
@@ -60,9 +64,16 @@ const MOST_AHEAD_OF_OTHERS: usize = 16_000_000;
 /// A write waits until the system takes a byte. While it does, it reads ahead what the peer says, for later reads: two
 /// peers that write to each other at once would else wait for each other. It fails if for 900 milliseconds no byte went
 /// either way, and in any case after five minutes, or one if the peer has shown no right tag yet.
+///
+/// What is said to a caller is withheld until its first frame was judged, or a read came back without one. So whoever
+/// forges a frame is told nothing, and what it would have been told is left for the next caller.
 #[derive(Drop)]
 pub(crate) struct Connection<S> {
+    alloc: Global,
     stream: S,
+    withheld: Vec<u8>,
+    /// Nothing is withheld from it: it was dialled, or a read came back without a frame of it.
+    tells: bool,
     ahead: Ahead,
     /// How many of the bytes ahead may be given.
     granted: usize,
@@ -70,12 +81,36 @@ pub(crate) struct Connection<S> {
 }
 
 impl<S: Read + Write + OpenStream + Drop> Connection<S> {
-    pub(crate) fn new(alloc: Global, stream: S, conduct: Conduct) -> io::Result<Self> {
+    /// With a peer that was dialled.
+    pub(crate) fn dialled(alloc: Global, stream: S, conduct: Conduct) -> io::Result<Self> {
+        Connection::new(alloc, stream, conduct, Vec::new(alloc), true)
+    }
+
+    /// With a caller, who is first told what was withheld from those before it.
+    pub(crate) fn called(
+        alloc: Global,
+        stream: S,
+        conduct: Conduct,
+        withheld: Vec<u8>,
+    ) -> io::Result<Self> {
+        Connection::new(alloc, stream, conduct, withheld, false)
+    }
+
+    fn new(
+        alloc: Global,
+        stream: S,
+        conduct: Conduct,
+        withheld: Vec<u8>,
+        tells: bool,
+    ) -> io::Result<Self> {
         stream.set_read_timeout(Some(Duration::from_millis(READ_WAITS)))?;
         stream.set_write_timeout(Some(Duration::from_millis(WRITE_WAITS)))?;
         stream.set_nodelay(true)?;
         Ok(Connection {
+            alloc,
             stream,
+            withheld,
+            tells,
             ahead: Ahead::new(alloc),
             granted: 0,
             conduct,
@@ -112,8 +147,27 @@ impl<S: Read + Write + OpenStream + Drop> Connection<S> {
         Ok(self.has_some(now))
     }
 
+    /// What was withheld from it.
+    pub(crate) fn withheld(&self) -> &[u8] {
+        &self.withheld
+    }
+
     /// Reads the next bytes, at least one if there is room, or none at the connection's end.
     pub(crate) fn read<C: Clock>(&mut self, clock: &C, room: &mut [u8]) -> io::Result<usize>
+        ensures same { length room.new ≡ length room.old }
+        ensures fits { IfOk result (λ count. count ≤ length room.new) }
+    {
+        if !withholds(self.tells, self.conduct.manner()) {
+            self.tell_withheld()?;
+        }
+        let answer = self.read_next(clock, room);
+        if self.conduct.manner() == Manner::New {
+            self.tells = true;
+        }
+        answer
+    }
+
+    fn read_next<C: Clock>(&mut self, clock: &C, room: &mut [u8]) -> io::Result<usize>
         ensures same { length room.new ≡ length room.old }
         ensures fits { IfOk result (λ count. count ≤ length room.new) }
     {
@@ -159,8 +213,37 @@ impl<S: Read + Write + OpenStream + Drop> Connection<S> {
         matches!(split(self.ahead.bytes()), Parted::Whole(_))
     }
 
-    /// Writes some of the piece, and reads ahead while it can't.
+    /// Writes some of the piece, or withholds all of it.
     pub(crate) fn write(&mut self, piece: &[u8]) -> io::Result<usize>
+        ensures { IfOk result (λ count. count ≤ length piece.now) }
+    {
+        let most = self.withheld.len().saturating_add(piece.len());
+        if withholds(self.tells, self.conduct.manner()) && most <= MOST_WITHHELD {
+            self.withheld.extend_from_slice(piece)?;
+            return Ok(piece.len());
+        }
+        self.tell_withheld()?;
+        self.write_now(piece)
+    }
+
+    /// Writes all that was withheld.
+    fn tell_withheld(&mut self) -> io::Result<()> {
+        let bytes = mem::replace(&mut self.withheld, Vec::new(self.alloc));
+        let mut told = 0;
+        for _ in 0..bytes.len() {
+            if told >= bytes.len() {
+                break;
+            }
+            match self.write_now(&bytes[told..])? {
+                0 => return Err(io::Error::from(ErrorKind::WriteZero)),
+                count => told = count.saturating_add(told),
+            }
+        }
+        Ok(())
+    }
+
+    /// Writes some of the piece, and reads ahead while it can't.
+    fn write_now(&mut self, piece: &[u8]) -> io::Result<usize>
         ensures { IfOk result (λ count. count ≤ length piece.now) }
     {
         let mut left = FRUITLESS_WAITS;
@@ -202,6 +285,16 @@ impl<S: Read + Write + OpenStream + Drop> Connection<S> {
         let count = read_at_hand(&mut self.stream, &mut piece[..most.min(PIECE)])?;
         self.ahead.put(&piece[..count])?;
         Ok(count)
+    }
+}
+
+/// What is said to a caller of this manner is withheld, unless it is to be told.
+fn withholds(tells: bool, manner: Manner) -> bool
+    ensures { result ≡ withholds tells manner }
+{
+    match manner {
+        Manner::New | Manner::Shown | Manner::Forger => !tells,
+        Manner::Unlisted | Manner::Member => false,
     }
 }
 

@@ -8,8 +8,10 @@ use crate::callers::Callers;
 use crate::conduct::{Conduct, Manner, greetings};
 use crate::connection::Connection;
 use crate::moments::millis_of;
+use crate::withheld::left_of;
 use std::alloc::Global;
 use std::io::{self, ErrorKind};
+use std::mem;
 use std::net::{Net, OpenListener, OpenStream, SocketAddr};
 use std::time::{Clock, Duration};
 use xl_base::Millis;
@@ -23,9 +25,10 @@ const PATIENCE: u64 = 900;
 /// A link to one member over TCP, with one connection at a time. What it gives and takes isn't told.
 ///
 /// An opening lets go of the connection before. It dials, and waits 900 milliseconds for the answer. Or it takes one of
-/// those who dialled in, and doesn't wait: the first that has shown a whole frame, or if none has the first that has sent
-/// nothing. Whoever else has dialled waits behind it. It answers NotYet if nobody is there: the call is refused, isn't
-/// answered in time or can't reach the machine, or nobody calls.
+/// those who dialled in: the first that has shown a whole frame, or if none has the first that has sent nothing. It
+/// doesn't wait for them, unless a throng calls. Whoever else has dialled waits behind the one that was taken. It
+/// answers NotYet if nobody is there: the call is refused, isn't answered in time or can't reach the machine, or nobody
+/// calls.
 ///
 /// A read waits a second for a byte, and then 50 milliseconds for more. A write waits until the system takes a byte, and
 /// reads ahead meanwhile what the peer says, for later reads; it fails if for 900 milliseconds no byte went either way.
@@ -33,11 +36,12 @@ const PATIENCE: u64 = 900;
 /// fails.
 ///
 /// Anybody can call or answer, and the link knows no key. So it gives one frame of a peer, and waits until that is
-/// judged. It lets go of whoever forged a frame, and of one that has sent no whole frame for a minute, or none at all for
-/// five. While another is due, a peer has 20 seconds from the latest fresh frame on, and two seconds at first; a
-/// greeting's headers count too, for five minutes. A read then says that no more bytes come. Another is due that has shown
-/// a frame, or has sent nothing for two seconds. What comes faster than a member says things is held back: a read answers
-/// Idle until it may be given.
+/// judged. What is said to a caller waits too, as long as a read takes, and what a forger would have been told is left
+/// for the next caller. The link lets go of whoever forged a frame, and of one that has sent no whole frame for a
+/// minute, or none at all for five. While another is due, a peer has 20 seconds from the latest fresh frame on, and two
+/// seconds at first; a greeting's headers count too, for five minutes. A read then says that no more bytes come.
+/// Another is due that has shown a frame, or has sent nothing for two seconds. What comes faster than a member says
+/// things is held back: a read answers Idle until it may be given.
 #[derive(Drop)]
 pub struct TcpLink<R: Net> {
     alloc: Global,
@@ -45,6 +49,8 @@ pub struct TcpLink<R: Net> {
     address: Address<R::Listener>,
     callers: Callers<R::Stream>,
     greetings: Option<Allowance>,
+    /// What was said to callers who forged a frame, and wasn't told.
+    withheld: Vec<u8>,
     connection: Option<Connection<R::Stream>>,
     faults: u64,
 }
@@ -57,6 +63,7 @@ impl<R: Net + Drop> TcpLink<R> {
             address,
             callers: Callers::new(alloc),
             greetings: None,
+            withheld: Vec::new(alloc),
             connection: None,
             faults: 0,
         }
@@ -77,25 +84,29 @@ impl<R: Net + Clock + Drop> TcpLink<R> {
         ensures faults { self.new.faults ≡ self.old.faults }
     {
         let now = millis_of(&self.net)?;
-        let stream = match &self.address {
-            Address::Dialled(addr) => dial(&self.net, *addr)?,
-            Address::Bound(listener) => {
-                self.callers.admit(listener, now)?;
-                next_of(&mut self.callers, now)?
+        let conduct = Conduct::new(self.greetings.unwrap_or(greetings(now)), now);
+        match &self.address {
+            Address::Dialled(addr) => {
+                let stream = dial(&self.net, *addr)?;
+                Connection::dialled(self.alloc, stream, conduct)
             }
-        };
-        let left = self.greetings.unwrap_or(greetings(now));
-        Connection::new(self.alloc, stream, Conduct::new(left, now))
+            Address::Bound(listener) => {
+                self.callers.admit_throng(listener, &self.net, now)?;
+                let stream = next_of(&mut self.callers, now)?;
+                let withheld = mem::replace(&mut self.withheld, Vec::new(self.alloc));
+                Connection::called(self.alloc, stream, conduct, withheld)
+            }
+        }
     }
 
-    /// Lets go of the connection, and keeps what members may still greet with.
+    /// Lets go of the connection, and keeps what members may still greet with, and what was withheld.
     fn leave(&mut self)
         ensures faults { self.new.faults ≡ self.old.faults }
     {
-        if let Some(connection) = &self.connection {
+        if let Some(connection) = self.connection.take() {
             self.greetings = Some(connection.conduct().greetings());
+            self.withheld = left_of(self.alloc, connection.withheld());
         }
-        self.connection = None;
     }
 
     /// The connection is to end: its peer forged a frame, was silent for too long, or makes room for another.
