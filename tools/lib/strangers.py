@@ -169,6 +169,8 @@ class Answering:
 CALLS = 66
 CALLERS = ["silent", "calling", "flooding", "fronts", "quiet", "throng", "greeting", "slow"]
 STRANGERS = [*CALLERS, "answering"]
+# Those who come where all are asked for. A throng at many ports would keep this program from handing on what nodes say.
+TOGETHER = [it for it in CALLERS if it != "throng"]
 
 
 def invite(way, pairs, late):
@@ -177,5 +179,5 @@ def invite(way, pairs, late):
         Answering(*pairs.away)
     if way != "answering":
         for (first, second), (_, address) in pairs.of.items():
-            for each in CALLERS if way == "all" else [way]:
+            for each in TOGETHER if way == "all" else [way]:
                 Stranger(each, first, second, address, late)

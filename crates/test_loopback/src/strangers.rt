@@ -210,7 +210,7 @@ fn what_a_forger_is_not_told_is_left_for_the_next(rt: HostRuntime) -> Result<(),
     listening.judged(Judgement::Known);
     assert!(rt; listening.read(&mut room) == LinkRead::Idle);
     assert!(rt; member.read(&mut room) == LinkRead::Got(FRAME));
-    assert!(rt; room[..FRAME] == front());
+    assert!(rt; &room[..FRAME] == front().as_slice());
     Ok(())
 }
 
