@@ -72,7 +72,7 @@ pub(crate) struct Connection<S> {
     alloc: Global,
     stream: S,
     withheld: Vec<u8>,
-    /// Nothing is withheld from it: it was dialled, or a read came back without a frame of it.
+    /// Nothing is withheld from it: it was dialled, was told something, or a read came back without a frame of it.
     tells: bool,
     ahead: Ahead,
     /// How many of the bytes ahead may be given.
@@ -222,6 +222,7 @@ impl<S: Read + Write + OpenStream + Drop> Connection<S> {
             self.withheld.extend_from_slice(piece)?;
             return Ok(piece.len());
         }
+        self.tells = true;
         self.tell_withheld()?;
         self.write_now(piece)
     }
