@@ -120,7 +120,11 @@ manner_by judged.Forged = Forger
 -- what is fresh was told, and so was a known header of a greeting that goes on
 abbrev pub after_judgement : Conduct → Judgement → ℕ → Conduct
 after_judgement peer judged.Fresh now = record peer { manner = Member; told = now; fresh = now; has_told = true }
-after_judgement peer judged.Known now = record peer { manner = Member; told = if peer.greets then now else peer.told }
+after_judgement peer judged.Known now = record peer {
+  manner = Member;
+  told = if peer.greets then now else peer.told;
+  has_told = peer.greets || peer.has_told;
+}
 after_judgement peer judged.Unlisted now = record peer { manner = Unlisted }
 after_judgement peer judged.Forged now = record peer { manner = Forger }
 

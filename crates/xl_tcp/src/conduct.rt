@@ -100,7 +100,7 @@ pub(crate) struct Conduct {
     told: Millis,
     /// When the latest fresh frame came.
     fresh: Millis,
-    /// Whether one did.
+    /// Whether one did, or a greeting went on.
     has_told: bool,
     /// The latest frame was one with which a greeting goes on.
     greets: bool,
@@ -177,7 +177,10 @@ impl Conduct {
                 self.fresh = now;
                 self.has_told = true;
             }
-            Judgement::Known if self.greets => self.told = now,
+            Judgement::Known if self.greets => {
+                self.told = now;
+                self.has_told = true;
+            }
             _ => {}
         }
     }
