@@ -1,14 +1,15 @@
 -- How the tokens of a line part.
-use Rattle.std.proofs.Common.{◌≡◌, ◌+◌, ◌-◌, ◌<◌, ◌≤◌, ℕ, Bool, true, false, cond, not, List, [], ◌∷◌, length, take, drop, nat_lt, nat_le, Some, None, refl, ap, sym, ◌∙◌, arith, zero, suc}
+use Rattle.std.proofs.Common.{◌≡◌, ◌+◌, ◌-◌, ◌<◌, ◌≤◌, ℕ, Bool, true, false, cond, not, List, [], ◌∷◌, length, take, drop, nat_lt, nat_le, Some, None, set, inl, inr, subst, refl, ap, sym, ◌∙◌, arith, zero, suc}
 use Rattle.std.specs.List.{slice_split, onto_first, position_or_len, position, join_with_byte}
-use Rattle.std.proofs.lemmas.List.{take_all, drop_all, length-drop}
-use Rattle.std.proofs.lemmas.List.Sums.{count_by-le-length, position_or_len_is}
+use Rattle.std.proofs.lemmas.List.{take_all, drop_all, drop-drop, get_or-set_same, get_or-set_other, length-drop, length-set}
+use Rattle.std.proofs.lemmas.List.Sums.{count_by-le-length, fails_before_first, passes_at_first}
 use Rattle.std.proofs.lemmas.List.Splits.{length-slice_split, join_with_byte-slice_split}
-use Rattle.std.proofs.lemmas.Bool.{leb-true, leb-false, lt-ltb, le-ltb, cond-true, cond-false, false_from_ne_true}
+use Rattle.std.proofs.lemmas.Bool.{cases_lt, leb-true, leb-false, lt-ltb, le-ltb, cond-true, cond-false, both_ways}
 use Rattle.std.proofs.lemmas.Bool.Decides.{nat_tests}
-use Rattle.std.specs.Prelude.{Option, slice_index}
-use Rattle.memchr.specs.Find.{IsFirstByte, is_byte}
-use Rattle.xl_audit.specs.Words.{is_space, tokens, tokens_if, first, others}
+use Rattle.std.specs.Prelude.{Option, slice_index, slice_set, is_some, MatchOption}
+use Rattle.memchr.specs.Find.{TakesFirst, is_byte, places, places_between}
+use Rattle.memchr.proofs.lemmas.PlaceLemmas.{places_between-first, places_between-none}
+use Rattle.xl_audit.specs.Words.{is_space, tokens, first, others, word_at, AreStarts, BeginsAt, StandsAt}
 
 abbrev first_len : List ℕ → ℕ
 first_len bs = position_or_len is_space bs
@@ -78,6 +79,9 @@ parted_not bs =
 pub length-tokens-le : (bs : List ℕ) → length (tokens bs) ≤ length bs + 1
 length-tokens-le bs = omega (arith, length-slice_split is_space bs, count_by-le-length is_space bs)
 
+pub length-tokens-most : (line : List ℕ) → length line ≤ 100000 → length (tokens line) ≤ 100000 + 1
+length-tokens-most line short = omega (arith, length-tokens-le line, short)
+
 -- some token is there
 pub length-tokens-some : (bs : List ℕ) → 1 ≤ length (tokens bs)
 length-tokens-some bs = omega (arith, length-slice_split is_space bs)
@@ -104,24 +108,139 @@ drop_one [] (suc n) = ap (λ k. drop k []) (sym (more_one n))
 drop_one (w ∷ ws) zero = refl
 drop_one (w ∷ ws) (suc n) = drop_one ws n ∙ ap (λ k. drop k (w ∷ ws)) (sym (more_one n))
 
--- what the type shows while a token is left, and when none is
-pub shown : (more : Bool) (bs : List ℕ) (ws : List (List ℕ)) → tokens_if more bs ≡ ws → more ≡ true → tokens bs ≡ ws
-shown more bs ws is left = ap (λ (b : Bool). tokens_if b bs) (sym left) ∙ is
+-- WHERE TOKENS BEGIN
 
-pub shown_none : (more : Bool) (bs : List ℕ) (ws : List (List ℕ)) → tokens_if more bs ≡ ws → more ≡ false → [] ≡ ws
-shown_none more bs ws is left = ap (λ (b : Bool). tokens_if b bs) (sym left) ∙ is
+drop_nothing : {X : Type 0} (n : ℕ) → drop n (let none : List X = [] in none) ≡ []
+drop_nothing zero = refl
+drop_nothing (suc n) = refl
+
+pub line_begins : (line : List ℕ) → BeginsAt line 0 0
+line_begins line = record { within = omega arith; rest = refl }
+
+-- the last token of a line has no other behind it
+none_behind : (line : List ℕ) (place at : ℕ) → BeginsAt line place at → position is_space (drop at line) ≡ None
+    → [] ≡ drop (place + 1) (tokens line)
+none_behind line place at b none =
+    others_not (drop at line) none ∙ (ap others b.rest ∙ drop_one (tokens line) place)
+
+pub nothing_behind : (line : List ℕ) (place at most : ℕ) → BeginsAt line place at → position is_space (drop at line) ≡ None
+    → place < most → drop most (tokens line) ≡ []
+nothing_behind line place at most b none lt =
+    let sum : place + 1 + (most - (place + 1)) ≡ most = omega (arith, lt) in
+    ap (λ k. drop k (tokens line)) (sym sum)
+    ∙ sym (drop-drop (most - (place + 1)) (place + 1) (tokens line))
+    ∙ ap (drop (most - (place + 1))) (sym (none_behind line place at b none))
+    ∙ drop_nothing (most - (place + 1))
+
+module _ (line : List ℕ) (place at len : ℕ) (b : BeginsAt line place at) (is : position is_space (drop at line) ≡ Some len) where
+  long : length (drop at line) ≡ length line - at
+  long = length-drop at line
+
+  behind : len < length line - at
+  behind = omega (arith, (parted_at (drop at line) len is).0, long)
+
+  -- a token ends at the first space behind its begin
+  pub next_within : at + (len + 1) ≤ length line
+  next_within = omega (arith, behind, b.within)
+
+  -- and there the next begins
+  pub next_begins : BeginsAt line (place + 1) (at + (len + 1))
+  next_begins = record {
+    within = next_within;
+    rest = ap tokens (sym (drop-drop (len + 1) at line))
+        ∙ (others_at (drop at line) len is ∙ (ap others b.rest ∙ drop_one (tokens line) place));
+  }
+
+  pub token_stands : StandsAt line place at (at + (len + 1))
+  token_stands =
+      let count : at + (len + 1) - 1 - at ≡ len = omega arith in record {
+        within = omega arith;
+        token = ap (λ k. take k (drop at line)) count ∙ (first_at (drop at line) len is ∙ ap first b.rest);
+      }
+
+-- WHERE THE FIRST TOKENS BEGIN
+
+long_set : (starts : List ℕ) (known at : ℕ) → length (set starts known at) ≡ length starts
+long_set starts known at = length-set starts known at
+
+pub long_more : (starts : List ℕ) (known at : ℕ) → length starts ≡ 9 → length (slice_set starts known at) ≡ 9
+long_more starts known at long = long_set starts known at ∙ long
+
+pub last_more : (starts : List ℕ) (known at : ℕ) → length starts ≡ 9 → known < 9
+    → slice_index (slice_set starts known at) (known + 1 - 1) ≡ at
+last_more starts known at long lt =
+    let same : known + 1 - 1 ≡ known = omega arith in
+    ap (slice_index (set starts known at)) same ∙ get_or-set_same starts known at 0 (omega (arith, long, lt))
+
+other : (starts : List ℕ) (known at place : ℕ) → place < known → slice_index starts place ≡ slice_index (set starts known at) place
+other starts known at place lt = sym (get_or-set_other starts known place at 0 (λ (e : place ≡ known). omega (arith, e, lt)))
+
+module _ (line starts : List ℕ) (known at len : ℕ) (size : length starts ≡ 9) (lt : known < 9) (so_far : AreStarts line starts known)
+    (last : slice_index starts (known - 1) ≡ at) (is : position is_space (drop at line) ≡ Some len) where
+  abbrev next : ℕ
+  next = at + (len + 1)
+
+  abbrev more : List ℕ
+  more = set starts known next
+
+  at_last : BeginsAt line (known - 1) at
+  at_last = subst (BeginsAt line (known - 1)) last (so_far.begins (known - 1) (omega (arith, so_far.some)))
+
+  begins_more : (place : ℕ) → place < known + 1 → BeginsAt line place (slice_index more place)
+  begins_more place below = elim (cases_lt place known) [
+    | inl old ↦ subst (BeginsAt line place) (other starts known next place old) (so_far.begins place old)
+    | inr new ↦
+        let same : place ≡ known = omega (arith, new, below) in
+        let one : known - 1 + 1 ≡ known = omega (arith, so_far.some) in
+        subst (λ k. BeginsAt line k (slice_index more k)) (sym same)
+        (subst (BeginsAt line known) (sym (get_or-set_same starts known next 0 (omega (arith, size, lt))))
+        (subst (λ k. BeginsAt line k next) one (next_begins line (known - 1) at len at_last is)))
+  ]
+
+  stands_more : (place : ℕ) → place + 1 < known + 1 → StandsAt line place (slice_index more place) (slice_index more (place + 1))
+  stands_more place below =
+      let old : place < known = omega (arith, below) in
+      elim (cases_lt (place + 1) known) [
+        | inl both ↦
+            subst (λ k. StandsAt line place k (slice_index more (place + 1))) (other starts known next place old)
+            (subst (StandsAt line place (slice_index starts place)) (other starts known next (place + 1) both) (so_far.stands place both))
+        | inr new ↦
+            let same : place ≡ known - 1 = omega (arith, new, below) in
+            let one : place + 1 ≡ known = omega (arith, new, below) in
+            let here : slice_index starts place ≡ at = ap (slice_index starts) same ∙ last in
+            subst (λ k. StandsAt line place (slice_index more place) (slice_index more k)) (sym one)
+            (subst (StandsAt line place (slice_index more place)) (sym (get_or-set_same starts known next 0 (omega (arith, size, lt))))
+            (subst (λ k. StandsAt line place k next) (sym here ∙ other starts known next place old)
+            (subst (λ k. StandsAt line k at next) (sym same) (token_stands line (known - 1) at len at_last is))))
+      ]
+
+  -- one more is known
+  pub starts_more : AreStarts line (slice_set starts known (at + (len + 1))) (known + 1)
+  starts_more = record {
+    some = omega arith;
+    few = omega (arith, lt);
+    begins = begins_more;
+    stands = stands_more;
+  }
+
+-- what a search for a token's start tells
+pub begins_in : (line : List ℕ) (place at : ℕ) (found : Option ℕ) → MatchOption found (drop place (tokens line) ≡ []) (BeginsAt line place)
+    → found ≡ Some at → tokens (drop at line) ≡ drop place (tokens line)
+begins_in line place at (Some k) b is = let same : k ≡ at = cc in subst (λ n. tokens (drop n line) ≡ drop place (tokens line)) same b.rest
+begins_in line place at None b is = cc
+
+pub any_begins : (line : List ℕ) (place : ℕ) (found : Option ℕ) → MatchOption found (drop place (tokens line) ≡ []) (BeginsAt line place)
+    → is_some found ≡ nat_lt 0 (length (drop place (tokens line)))
+any_begins line place (Some at) b =
+    sym (lt-ltb 0 (length (tokens (drop at line))) (length-tokens-some (drop at line)))
+    ∙ ap (λ (xs : List (List ℕ)). nat_lt 0 (length xs)) b.rest
+any_begins line place None none = sym (ap (λ (xs : List (List ℕ)). nat_lt 0 (length xs)) none)
 
 -- the rest of a slice, as a slice has it
 pub rest_of : (bs : List ℕ) (n : ℕ) → take (length bs - n) (drop n bs) ≡ drop n bs
 rest_of bs n = take_all (length bs - n) (drop n bs) (omega (arith, length-drop n bs))
 
 -- HOW MANY THERE ARE
-
--- whether one is left
-pub any_left : (more : Bool) (bs : List ℕ) (ws : List (List ℕ)) → tokens_if more bs ≡ ws → more ≡ nat_lt 0 (length ws)
-any_left true bs ws is =
-    sym (lt-ltb 0 (length (tokens bs)) (length-tokens-some bs)) ∙ ap (λ (xs : List (List ℕ)). nat_lt 0 (length xs)) is
-any_left false bs ws is = ap (λ (xs : List (List ℕ)). nat_lt 0 (length xs)) is
 
 -- one is left behind fewer than so many exactly if they are so many
 pub has_so_many : (count : ℕ) (xs : List (List ℕ)) → 0 < count
@@ -141,15 +260,33 @@ not_so_many least n =
       | false ↦ λ is. let lt = leb-false least n is in let yes = lt-ltb n least lt in cc
     ] refl
 
+first_taken : (xs : List ℕ) (found : Option ℕ) (rest : List ℕ) (n : ℕ) (others : List ℕ) → TakesFirst xs found rest
+    → xs ≡ n ∷ others → found ≡ Some n
+first_taken xs (Some k) rest n others takes is = cc
+first_taken xs None rest n others takes is = let none = takes.0 in cc
+
+none_taken : (xs : List ℕ) (found : Option ℕ) (rest : List ℕ) → TakesFirst xs found rest → xs ≡ [] → found ≡ None
+none_taken xs (Some k) rest takes is = cc
+none_taken xs None rest takes is = refl
+
 -- a first space is found
-pub found_space : (bs : List ℕ) (found : Option ℕ) → IsFirstByte (is_byte 32) bs found → found ≡ position is_space bs
-found_space bs (Some at) first =
-    let is : first_len bs ≡ at =
-    position_or_len_is is_space bs at 0 (omega (arith, first.0.high))
-    (λ k lt. false_from_ne_true (is_space (slice_index bs k)) (first.0.before k (omega arith) lt)) (λ lt. first.1) in
-    sym (cond-true (nat_lt (first_len bs) (length bs)) (Some (first_len bs)) None (lt-ltb (first_len bs) (length bs) (omega (arith, is, first.0.high))) ∙ ap Some is)
-found_space bs None first =
-    let is : first_len bs ≡ length bs =
-    position_or_len_is is_space bs (length bs) 0 (omega arith)
-    (λ k lt. false_from_ne_true (is_space (slice_index bs k)) (first k (omega arith) lt)) (λ lt. absurd (omega (arith, lt))) in
-    sym (cond-false (nat_lt (first_len bs) (length bs)) (Some (first_len bs)) None (le-ltb (first_len bs) (length bs) (omega (arith, is))))
+pub found_space : (bs : List ℕ) (found : Option ℕ) (rest : List ℕ) → TakesFirst (places (is_byte 32) bs) found rest
+    → found ≡ position is_space bs
+found_space bs found rest takes =
+    let n : ℕ = first_len bs in
+    let fails = fails_before_first is_space bs in
+    elim (cases_lt n (length bs)) [
+      | inl lt ↦
+          let here : places (is_byte 32) bs ≡ n ∷ places_between (is_byte 32) bs (n + 1) (length bs) =
+          places_between-first (is_byte 32) bs 0 (length bs) n
+          (record { low = omega arith; high = lt; before = λ k _ below. both_ways (is_space (slice_index bs k)) (fails k 0 below) })
+          (passes_at_first is_space bs 0 lt) in
+          first_taken (places (is_byte 32) bs) found rest n _ takes here
+          ∙ sym (cond-true (nat_lt n (length bs)) (Some n) None (lt-ltb n (length bs) lt))
+      | inr ge ↦
+          let none : places (is_byte 32) bs ≡ [] =
+          places_between-none (is_byte 32) bs 0 (length bs) (omega arith)
+          (λ k _ below. both_ways (is_space (slice_index bs k)) (fails k 0 (omega (arith, below, ge)))) in
+          none_taken (places (is_byte 32) bs) found rest takes none
+          ∙ sym (cond-false (nat_lt n (length bs)) (Some n) None (le-ltb n (length bs) ge))
+    ]

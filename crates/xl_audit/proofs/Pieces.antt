@@ -4,7 +4,7 @@ use Rattle.std.specs.Prelude.{count_by, nat_le, option_map}
 use Rattle.std.specs.Option.{is_none}
 use Rattle.std.proofs.lemmas.Bool.{cases_lt, cond-true, cond_both, le-leb, leb-true}
 use Rattle.std.proofs.lemmas.Grind.{flat_map-append}
-use Rattle.std.proofs.lemmas.List.{append_assoc, length-append, length-drop, length-take-le, drop-drop, drop-map, drop-append-le, get_or_past, get_or-set_same, set_past, take-append-le, take_all, drop_all}
+use Rattle.std.proofs.lemmas.List.{append_assoc, append-nil, length-append, length-drop, length-take-le, drop-drop, drop-map, drop-append-le, get_or_past, get_or-set_same, set_past, take-append-le, take_all, drop_all}
 use Rattle.std.proofs.lemmas.List.Elements.{filter_map-append}
 use Rattle.std.proofs.lemmas.List.Sums.{sum_by-append}
 use Rattle.std.proofs.Math.Seq.{drop-append-add, drop-length, take-add}
@@ -403,3 +403,26 @@ module _ (start : Core) (room : ℕ) (now after : Core) (left part : ℕ) (given
     is ∙ ap (handed_out now) same ∙ sym so_far.core,
     adds ∙ ap (λ (k : ℕ). given ++ take k now.untaken.items) same ∙ sym so_far.reports,
   )
+
+-- A few reports, and the others if there are any
+
+module _ (core : Core) (room : ℕ) (le : 4 ≤ room) where
+  -- no more are there
+  pub few_reports : (count : ℕ) → count ≡ length (take 4 core.untaken.items) → count < 4
+      → (handed_out core 4 ≡ handed_out core room) × (take 4 core.untaken.items ≡ take room core.untaken.items)
+  few_reports count many lt =
+      handing_over core room core (handed_out core 4) room 4 [] (take 4 core.untaken.items) (handing_begun core room) refl refl le
+      (omega (arith, many, lt))
+
+  pub reports_both : (after last : Core) (given : List Report) → after ≡ handed_out core 4 → last ≡ handed_out after (room - 4)
+      → given ≡ take 4 core.untaken.items ++ take (room - 4) after.untaken.items
+      → (last ≡ handed_out core room) × (given ≡ take room core.untaken.items)
+  reports_both after last given first rest all =
+      let both : HasHanded core room after (room - 4) (take 4 core.untaken.items) =
+      handing_more core room core after room 4 [] (take 4 core.untaken.items) (handing_begun core room) first refl le in
+      (rest ∙ sym both.core, all ∙ sym both.reports)
+
+-- a room that was filled holds nothing else
+pub filled : {X : Type 0} (count : ℕ) (room given old : List X) → room ≡ given ++ drop count old → length old ≤ count
+    → room ≡ given
+filled count room given old is le = is ∙ ap (λ (rest : List _). given ++ rest) (drop_all count old le) ∙ append-nil given

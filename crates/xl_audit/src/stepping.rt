@@ -115,7 +115,25 @@ fn drain_all(
     Ok(given)
 }
 
-/// What waits for a peer is drained, and told as digits.
+/// What waits for a peer is drained into the front of a room that is there, and told as digits.
+fn reply_to_short_drain<T: ReplyText>(
+    alloc: Global,
+    core: &mut AuditedCore,
+    member: NodeNo,
+    room: &mut [u8],
+    text: &mut T,
+) -> Result<(), OutOfMemory>
+    requires peer { IsSome (key_of core.old.node.keys member) }
+    requires room { longest_frame ≤ length room.old }
+    requires text { T.told text.old ≡ [] }
+    ensures text { OnOk result (Replies core.old (Drain member (length room.old)) core.new (T.told text.new)) }
+    ensures keys { OnOk result (core.new.node.keys ≡ core.old.node.keys) }
+{
+    let count = core.drain(member, room);
+    push_bytes(alloc, text, first_bytes(room, count))
+}
+
+/// What waits for a peer is drained, and told as digits. Only what doesn't fit into the room that is there takes memory.
 fn reply_to_drain<T: ReplyText>(
     alloc: Global,
     core: &mut AuditedCore,
@@ -130,6 +148,9 @@ fn reply_to_drain<T: ReplyText>(
     ensures text { OnOk result (Replies core.old (Drain member room) core.new (T.told text.new)) }
     ensures keys { OnOk result (core.new.node.keys ≡ core.old.node.keys) }
 {
+    if room <= ROOM {
+        return reply_to_short_drain(alloc, core, member, &mut piece[..room], text);
+    }
     let given = drain_all(alloc, core, member, room, piece)?;
     push_bytes(alloc, text, given.as_slice())
 }
@@ -184,7 +205,23 @@ fn hand_out_all(
     Ok(given)
 }
 
-/// Reports are handed out, and told.
+/// Hands out the reports that are left in a room behind these, which were handed out before.
+fn hand_out_rest(
+    alloc: Global,
+    core: &mut AuditedCore,
+    first: &[Report],
+    left: usize,
+) -> Result<Vec<Report>, OutOfMemory>
+    ensures core { OnOk result (core.new ≡ handed_out core.old left) }
+    ensures given { IfOk result (λ given. given.items ≡ first.now ++ take left core.old.untaken.items) }
+{
+    let rest = hand_out_all(alloc, core, left)?;
+    let mut given = Vec::from_slice(alloc, first)?;
+    given.extend_from_slice(rest.as_slice())?;
+    Ok(given)
+}
+
+/// Reports are handed out, and told. Most entries hand out few, which take no memory.
 fn reply_to_reports<T: ReplyText>(
     alloc: Global,
     core: &mut AuditedCore,
@@ -195,7 +232,16 @@ fn reply_to_reports<T: ReplyText>(
     ensures text { OnOk result (Replies core.old (Reports room) core.new (T.told text.new)) }
     ensures keys { OnOk result (core.new.node.keys ≡ core.old.node.keys) }
 {
-    let given = hand_out_all(alloc, core, room)?;
+    if room < PIECE {
+        let given = hand_out_all(alloc, core, room)?;
+        return push_reports(alloc, text, given.as_slice());
+    }
+    let mut piece = [BLANK; PIECE];
+    let count = core.reports(&mut piece);
+    if count < PIECE {
+        return push_reports(alloc, text, first_reports(&piece, count));
+    }
+    let given = hand_out_rest(alloc, core, &piece, room - PIECE)?;
     push_reports(alloc, text, given.as_slice())
 }
 

@@ -1,8 +1,9 @@
-use Rattle.std.proofs.Common.{◌∙◌, ap}
-use Rattle.xl_audit.specs.Words.{others}
-use Rattle.xl_audit.proofs.Parting.{drop_one}
+use Rattle.std.proofs.Common.{◌∙◌, ap, drop}
+use Rattle.xl_audit.specs.Words.{tokens}
+use Rattle.xl_audit.proofs.Parting.{length-tokens-most}
 use Rattle.xl_audit.proofs.words.Words.after.Goals as goal
 
-pub loop-preserved : goal.loop-preserved
-loop-preserved c =
-    c.others-left.ensures ∙ (ap others c.loop.invariant ∙ drop_one c.args.self.now c.loop.counter)
+pub returns : goal.returns
+returns c =
+    c.place_behind.ensures (tokens c.self.inside.line.now) (length-tokens-most c.self.inside.line.now c.self.invariant.0)
+    ∙ ap (drop c.args.count) c.self.view_is
