@@ -125,7 +125,9 @@ class Publishers:
 
 
 def settings(me, members, pairs, trust, milliseconds, asked):
-    """The settings of one node, by whom it trusts."""
+    """The settings of one node, by whom it trusts. With a liar each submits a transaction of its own, since two sides
+    that submit the same would build the same ledgers."""
+    transaction = secrets.token_hex(32) if asked.liar else pairs.transaction
     lines = [
         f"me = {me}",
         *trust.lines(me),
@@ -133,7 +135,7 @@ def settings(me, members, pairs, trust, milliseconds, asked):
         f"run_ms = {milliseconds}",
         f"turns = {asked.turns}",
         "limit = 262144",
-        f'submit = ["{pairs.transaction}"]',
+        f'submit = ["{transaction}"]',
         *(["journal = true"] if asked.journal else []),
         "",
     ]
