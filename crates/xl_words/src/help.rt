@@ -30,7 +30,9 @@ fn push_commands(text: &mut String) -> Result<(), AllocError>
     ensures { OnOk result (string_bytes text.new ≡ string_bytes text.old ++ commands_text) }
 {
     text.push_str("  replay         runs a schedule, and writes what each node does\n")?;
-    text.push_str("  tell           runs a schedule, and tells each event: what is sent and held\n")?;
+    text.push_str(
+        "  tell           runs a schedule, and tells each event: what is sent and held\n",
+    )?;
     text.push_str("  node           runs a validator by the settings that it reads\n")?;
     text.push_str("  lists          compares the trusted lists of a schedule, pair by pair\n")?;
     text.push_str("  merge          tells which list is in force, from the rolls of publishers\n")?;
@@ -57,7 +59,9 @@ fn push_streams(text: &mut String) -> Result<(), AllocError>
     text.push_str(
         "A command reads standard input and writes standard output. replay, tell, lists,\n",
     )?;
-    text.push_str("flags and negative read a schedule, which begins with the line: xl-schedule 1\n")?;
+    text.push_str(
+        "flags and negative read a schedule, which begins with the line: xl-schedule 1\n",
+    )?;
     text.push_str("merge reads rolls, in a text that begins with the line: xl-publish 1\n")?;
     text.push_str("audit reads a written journal, which begins with the line: xl-journal 1\n")?;
     text.push_str("blame reads one journal or more, each right behind the one before it.\n")?;
