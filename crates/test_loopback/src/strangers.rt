@@ -199,18 +199,18 @@ fn what_a_forger_is_not_told_is_left_for_the_next(rt: HostRuntime) -> Result<(),
     // Each caller is greeted with the headers anew.
     assert!(rt; listening.write(&header(1)) == Wrote::Took(164));
     assert!(rt; listening.write(&front()) == Wrote::Took(FRAME));
-    let mut room = [0; 164];
+    let mut room = [0; FRAME];
     assert!(rt; listening.read(&mut room) == LinkRead::Got(FRAME));
     listening.judged(Judgement::Forged);
     assert!(rt; listening.read(&mut room) == LinkRead::End);
     assert!(rt; gives(&clock, &mut member, &front()));
-    assert_eq!(rt; takes(&clock, &mut listening, &mut room[..FRAME]), FRAME);
+    assert_eq!(rt; takes(&clock, &mut listening, &mut room), FRAME);
     let told = stranger.read(&mut room);
     assert!(rt; told == LinkRead::End || told == LinkRead::Failed);
     listening.judged(Judgement::Known);
     assert!(rt; listening.read(&mut room) == LinkRead::Idle);
     assert!(rt; member.read(&mut room) == LinkRead::Got(FRAME));
-    assert!(rt; &room[..FRAME] == front().as_slice());
+    assert!(rt; room == front());
     Ok(())
 }
 
