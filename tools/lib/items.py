@@ -1,9 +1,11 @@
 """The lines of a schedule as items that may be left out: each has a number of its own, and a delivery follows its frame."""
+import collections
+import os
+import select
+import subprocess
 from dataclasses import dataclass
 
-import follower
 import schedules
-from feed import Unfollowed
 
 # Which tokens of a line are sequences, seconds and moments; they are made small together, wherever one stands.
 NUMBERS = {
@@ -43,51 +45,116 @@ class Item:
         return self.tokens[0] if self.tokens else 'deliver'
 
 
-class Counting:
-    """Which frames the items send, where each frame is a validation."""
+class Unfollowed(Exception):
+    """The program came to its end, so it isn't told which frames are sent."""
 
-    def __init__(self):
-        self.network, self.savings, self.sent = schedules.Network(), schedules.Savings(), []
 
-    def take(self, item):
-        tokens = item.tokens
-        inner = schedules.inner_event(tokens)
-        if item.word in schedules.DECLARATIONS:
-            self.network.declare(tokens)
-        elif inner[0] == 'restart':
-            self.savings.restart(int(inner[1]))
-        elif inner[0] == 'issue':
-            node = int(inner[1])
-            torn = tokens[:2] if item.word != 'issue' else ()
-            if self.savings.issue(node, int(inner[2]), torn):
-                self.sent += [Delivery(item.number, node, other, 0) for other in self.network.others(node)]
+class Parts:
+    """The deliveries and timers of each line of a schedule, one by one, as the program tells them."""
 
-    def deliver(self, number):
-        if not 0 < number <= len(self.sent):
-            raise Unfollowed('frame %d isn\'t sent yet' % number)
+    def __init__(self, story):
+        self.story, self.events, self.items = story, {}, {}
+        for event in story.events:
+            self.events.setdefault(event.line, []).append(event)
 
-    def close(self):
-        pass
+    def of(self, line):
+        """What the line is, part by part; a refused line and what stands behind it is told by nobody."""
+        last = self.story.report.last_line
+        if last is not None and line > last:
+            return [' '.join(self.story.lines[line - 1].split())]
+        return [self.part(event) for event in self.events.get(line, ()) if event.word != 'drop']
+
+    def part(self, event):
+        if event.word != 'deliver':
+            return ' '.join(event.tokens)
+        frame = self.story.frames[event.frame - 1]
+        return Delivery(self.items[frame.event], frame.sender, frame.receiver, frame.nth)
+
+    def note(self, line, items):
+        """The items of the line: one for all of its events, or one for each."""
+        events = self.events.get(line, [])
+        for event, item in zip(events, items if len(items) > 1 else items * len(events)):
+            self.items[event.index] = item.number
 
 
 class Asking:
-    """The same where nodes have rounds: the program is run beside, line by line."""
+    """Which frames the items send, each as its delivery: `xl tell` runs beside, and is handed line after line.
 
-    def __init__(self, program, later):
-        self.follower, self.sent, self.nths = follower.Follower(program, True, later=later), [], {}
+    So that all is told of the lines that were put, a question is put behind them, which changes nothing: once the
+    program begins with it, it is through with them."""
+
+    def __init__(self, program):
+        streams = dict(stdin=subprocess.PIPE, stdout=subprocess.PIPE, stderr=subprocess.DEVNULL, bufsize=0)
+        self.process = subprocess.Popen([program, 'tell'], **streams)
+        os.set_blocking(self.process.stdin.fileno(), False)
+        self.unsent, self.lines, self.begun = [], collections.deque(), b''
+        self.items, self.nodes, self.numbers, self.nths, self.has_news = [], [], {}, {}, False
 
     def take(self, item):
-        self.follower.take(item.number, item.content, list(item.tokens))
-        for frame in self.follower.frames[len(self.sent) :]:
-            ends = item.number, frame.sender, frame.receiver
-            self.nths[ends] = self.nths.get(ends, -1) + 1
-            self.sent.append(Delivery(*ends, self.nths[ends]))
+        """The next item, which is no delivery."""
+        if item.word == 'node':
+            self.nodes.append(item.tokens[1])
+        self.put(item.number, item.content)
+        self.has_news = True
 
-    def deliver(self, number):
-        self.follower.take(0, '', ['deliver', str(number)])
+    def deliver(self, delivery):
+        """Puts the delivery, if its frame is sent by then: the line, or None."""
+        if delivery not in self.numbers and self.has_news and self.nodes:
+            self.put(None, 'prefer ' + self.nodes[0])
+            self.send()
+            self.read_up_to(len(self.items))
+            self.has_news = False
+        if delivery not in self.numbers:
+            return None
+        self.put(None, 'deliver %d' % self.numbers[delivery])
+        return self.unsent[-1]
+
+    def put(self, number, line):
+        self.items.append(number)
+        self.unsent.append(line)
+
+    def send(self):
+        """Sends all lines that wait. What the program says meanwhile is read, so that neither waits for the other."""
+        left, self.unsent = memoryview('\n'.join([*self.unsent, '']).encode('latin-1')), []
+        try:
+            while left:
+                readable, writable, _ = select.select([self.process.stdout], [self.process.stdin], [])
+                if readable and not self.read():
+                    return
+                if writable:
+                    left = left[os.write(self.process.stdin.fileno(), left) :]
+        except BrokenPipeError:
+            pass  # why the program ended stands in what it said
+
+    def read(self):
+        """Whether the program said more, which is kept line by line."""
+        came = os.read(self.process.stdout.fileno(), 1 << 16)
+        *whole, self.begun = (self.begun + came).split(b'\n')
+        self.lines.extend(whole)
+        return came
+
+    def read_up_to(self, question):
+        """Takes what is told, up to the event in this line."""
+        while True:
+            while not self.lines:
+                if not self.read():
+                    raise Unfollowed('the program ended before it was through')
+            word, *more = self.lines.popleft().split(maxsplit=4)
+            if word == b'event':
+                self.line = int(more[0])
+                if self.line == question:
+                    return
+            elif word == b'sent':
+                ends = self.items[self.line - 1], int(more[1]), int(more[2])
+                self.nths[ends] = self.nths.get(ends, -1) + 1
+                self.numbers[Delivery(*ends, self.nths[ends])] = int(more[0])
 
     def close(self):
-        self.follower.close()
+        self.process.stdin.close()
+        while self.read():
+            pass
+        self.process.stdout.close()
+        self.process.wait()
 
 
 def all_numbers(items, kind):

@@ -3,7 +3,6 @@ import bisect
 
 import schedules
 import svg
-from states import States
 from words import KINDS, Wording, seconds
 
 MOST_SHOWN, FIRST_SHOWN, LAST_SHOWN = 100, 60, 40
@@ -36,11 +35,10 @@ class Shades:
 class Lanes:
     """What stands in the picture of a story."""
 
-    def __init__(self, story, options, fallback, states=None):
+    def __init__(self, story, options, fallback):
         self.story, self.options, self.is_compact = story, options, getattr(options, 'compact', False)
         self.title = story.title or fallback
-        states = states or States(story)
-        self.words, self.shades = Wording(story, states), Shades(states.sequences_said())
+        self.words, self.shades = Wording(story), Shades(story.sequences_said())
         self.lanes = sorted([*story.network.nodes, *story.network.liars])
         self.fork = self.words.fork
         self.forked = {event.index: event for event, _ in self.fork or ()}

@@ -144,10 +144,6 @@ function drawRounds() {
     const state = states[at][node], round = state.round, row = make('tr')
     if (at && steps[at - 1].node === node) row.className = 'here'
     row.append(head('Node ' + node, 'row'))
-    if (!round) {
-      row.append(make('td', 'not worked out', 'fact none'))
-      return row
-    }
     const [phase, mode, pending, ours, positions] = round, held = Object.values(positions)
     const name = make('td', phase, 'fact')
     if (mode !== 'proposing') name.append(make('span', ', ' + mode, 'none'))

@@ -1,9 +1,8 @@
 """Where two runs part: the first report that differs and why, else the first event of which something else came."""
 import difflib
 
-import follower
 import words
-from states import States
+from told import Story
 
 WINDOW = 400  # so many events behind the first that parts are matched with those of the other run
 
@@ -13,10 +12,9 @@ class Run:
 
     def __init__(self, name, story):
         self.name, self.story = name, story
-        self.states = States(story)
-        self.words = words.Wording(story, self.states)
+        self.words = words.Wording(story)
         self.reports = {}
-        for report in self.states.reports:
+        for report in story.reports:
             self.reports.setdefault((report.node, report.sequence, report.ledger), report)
 
     def what(self, event):
@@ -37,7 +35,7 @@ class Run:
 
     def most_votes(self, node, sequence, ledger):
         """The most members whose votes for the ledger the node ever held together."""
-        states = [state for event, state in zip(self.story.events, self.states.behind) if state and event.node == node]
+        states = [state for event, state in zip(self.story.events, self.story.behind) if state and event.node == node]
         return max((state.voters(sequence, ledger) for state in states), key=len, default=[])
 
     def lists(self, node):
@@ -52,7 +50,7 @@ class Run:
         return '%s: line %d: %s\n' % (self.name, event.line, self.words.said(event)) if event else '%s: no such event\n' % self.name
 
     def told_with_outcomes(self, event):
-        lines = ['    %s\n' % ' '.join(event.reported(it)) for it in event.outcomes] if event else []
+        lines = ['    %s\n' % ' '.join(it) for it in event.outcomes] if event else []
         return self.told(event) + (''.join(lines) or '    nothing\n')
 
 
@@ -158,4 +156,4 @@ def of_lines(names, one, other):
 
 
 def story_of(program, text):
-    return follower.Story(program, text.encode('utf-8', 'surrogateescape').decode('latin-1'))
+    return Story(program, text.encode('utf-8', 'surrogateescape').decode('latin-1'))

@@ -1,9 +1,7 @@
 """What the tools know of schedules: their lines, what they declare, and how the program runs them."""
-import hashlib
 import os
 import re
 import shutil
-import struct
 import subprocess
 import sys
 from dataclasses import dataclass
@@ -12,11 +10,11 @@ import command
 
 TOP = os.path.dirname(os.path.dirname(os.path.dirname(os.path.realpath(__file__))))
 NUMBERS = range(1, 65)
+ROOT = '0' * 64
 ENDINGS = ('short', 'forged', 'agree', 'fork')
 NEVER_SAVED = ('30', '31', '32')
 DECLARATIONS = ('xl-schedule', 'node', 'liar', 'limit', 'speak', 'at', 'name', 'ledger')
 ROUND_WORDS = ('timer', 'timers', 'submit', 'greet')
-MOMENTLESS = ('greet', 'prefer', 'heard')
 NODE_BYTES, LEDGER_BYTES, DEFAULT_LIMIT, LIMITS = 1717000, 244, 1024, range(2, 16385)
 PROBLEMS = {2: 'words refused', 4: 'input failed', 5: 'output failed', 6: 'out of memory'}
 
@@ -212,29 +210,25 @@ def list_of(tokens):
     return int(tokens[2]), [int(member) for member in tokens[3].split(',')]
 
 
-def members_set_later(lines):
-    """The members that stand on a `list` line."""
-    return {member for it in map(str.split, lines) if it[:1] == ['list'] for member in list_of(it)[1]}
-
-
 class Names:
-    """Which name is printed for an id, as the program prints it: the first one that stands for it."""
+    """Which name is printed for an id, as the program prints it: the first one that stands for it.
+
+    Of a declared ledger the program prints the name alone, so its parent's name and its close time take its id's place."""
 
     def __init__(self):
-        self.ids, self.first, self.parents = {}, {}, {}
-        self.ledgers = {'root': (0, 0)}
-        self.put('root', '0' * 64)
+        self.ids, self.first, self.parents, self.sequences = {}, {}, {}, {}
+        self.put('root', ROOT)
+        self.sequences[ROOT] = 0
 
     def declare(self, tokens):
         if tokens[0] == 'name':
             self.put(tokens[1], self.id_of(tokens[2]))
         elif tokens[0] == 'ledger':
-            sequence, parents_close = self.ledgers[tokens[2]]
-            self.ledgers[tokens[1]] = sequence + 1, int(tokens[3])
-            parent = bytes.fromhex(self.ids[tokens[2]])
-            ledger = ledger_id(sequence + 1, parent, parents_close, int(tokens[3]))
+            parent = self.ids[tokens[2]]
+            ledger = '%s %s' % (self.first[parent], tokens[3])
             self.put(tokens[1], ledger)
-            self.parents[ledger] = self.ids[tokens[2]]
+            self.parents[ledger] = parent
+            self.sequences[ledger] = self.sequences[parent] + 1
 
     def put(self, name, ledger):
         self.ids[name] = ledger
@@ -246,17 +240,6 @@ class Names:
     def short(self, token):
         token = self.first.get(self.id_of(token), token)
         return token if len(token) <= 16 else token[:8] + '…'
-
-
-def ledger_id(sequence, parent, parents_close, close):
-    """The id of the ledger that a `ledger` line declares: the half hash of its header."""
-    header = struct.pack('>IQ32s64xIIBB', sequence, 10**17, parent, parents_close, close, 30, 0)
-    return header_id(header)
-
-
-def header_id(header):
-    """The half hash of a ledger's header."""
-    return hashlib.sha512(b'LWR\0' + header).hexdigest()[:64]
 
 
 def in_utf8(words):
@@ -285,28 +268,3 @@ def first_sentence(lines):
     """The first sentence of the first comment, or None."""
     paragraphs = first_comment(lines)
     return re.match(r'.*?(?:[.!?](?= |$)|$)', paragraphs[0]).group() if paragraphs else None
-
-
-class Savings:
-    """What each keeper holds, and who may issue: which issues are sent in a schedule without rounds."""
-
-    def __init__(self):
-        self.kept, self.held, self.has_failed = {}, {}, set()
-
-    def restart(self, node):
-        self.kept[node] = self.held.get(node, 0)
-        self.has_failed.discard(node)
-
-    def issue(self, node, sequence, torn=()):
-        """Whether the validation is sent; `torn` is empty, or `cut` or `fail` with `old` or `new`."""
-        asks = sequence > self.kept.get(node, 0) and node not in self.has_failed
-        word = torn[0] if torn else None
-        if asks and torn[1:] != ('old',):
-            self.held[node] = sequence
-        if asks and word == 'fail':
-            self.has_failed.add(node)
-        elif asks and word is None:
-            self.kept[node] = sequence
-        if word == 'cut':
-            self.restart(node)
-        return asks and word is None

@@ -31,8 +31,8 @@ LEGEND = {
 class Timeline(Lanes):
     """The picture of a story."""
 
-    def __init__(self, story, options, fallback, states=None):
-        super().__init__(story, options, fallback, states)
+    def __init__(self, story, options, fallback):
+        super().__init__(story, options, fallback)
         self.used, self.under, self.boxes, self.over, self.texts = set(), [], [], [], []
 
     def rooms(self):

@@ -95,6 +95,31 @@ class Lists:
             self.numbers.append(number)
 
 
+class Savings:
+    """What each keeper holds, and who may issue. A try is made before anybody runs it, and yet has to number its frames."""
+
+    def __init__(self):
+        self.kept, self.held, self.has_failed = {}, {}, set()
+
+    def restart(self, node):
+        self.kept[node] = self.held.get(node, 0)
+        self.has_failed.discard(node)
+
+    def issue(self, node, sequence, torn=()):
+        """Whether the validation is sent; `torn` is empty, or `cut` or `fail` with `old` or `new`."""
+        asks = sequence > self.kept.get(node, 0) and node not in self.has_failed
+        word = torn[0] if torn else None
+        if asks and torn[1:] != ('old',):
+            self.held[node] = sequence
+        if asks and word == 'fail':
+            self.has_failed.add(node)
+        elif asks and word is None:
+            self.kept[node] = sequence
+        if word == 'cut':
+            self.restart(node)
+        return asks and word is None
+
+
 class Weather:
     """How likely it is, in one try, that things go wrong.
 
@@ -118,7 +143,7 @@ class Try:
     def __init__(self, lists, dice, heading, restarts=True):
         self.lists, self.dice, self.weather = lists, dice, Weather(dice, restarts)
         self.lines, self.moment = ['xl-schedule 1', '# ' + heading, *lists.lines], lists.moment
-        self.savings, self.receivers = schedules.Savings(), []
+        self.savings, self.receivers = Savings(), []
         sequence = dice.choice((1, 1, 1, 5))
         for _ in range(dice.choice((1, 1, 2, 3))):
             self.hold_round(*self.choose_pair(), sequence)

@@ -57,6 +57,15 @@ NONE_SHORT_OF_BRANCHES = (
     'No pair of nodes is short, which keeps reports of one sequence alike; it keeps no two sequences on one branch.'
 )
 OF_ONE_SEQUENCE = 'This speaks of ledgers of one sequence, and of runs in which no message is forged.'
+VERDICTS = {
+    'branches': 'Two branches: no two reports of one sequence differ, but reports of two sequences contradict each other.',
+    'quiet': 'Nothing is reported, so no two reports differ.',
+    'agree': 'Agreed: no two reports of one sequence differ.',
+}
+WARNING = (
+    'Warning, two branches: {0} reports {1} (line {2}) and {3} {4} (line {5}), which doesn\'t follow it. '
+    'They are of different sequences, so this is no fork of the report, but both can\'t stand in one history.'
+)
 KINDS = {
     'validation': 'validation',
     'proposal': 'proposal',
@@ -142,10 +151,10 @@ def first_fork(events, names):
 class Wording:
     """What is said of each event, in words."""
 
-    def __init__(self, story, states):
+    def __init__(self, story):
         self.story, self.names = story, story.names
         self.fork = first_fork(story.events, story.names)
-        self.branches = states.two_branches()
+        self.branches = story.two_branches()
 
     def kind(self):
         """How the run ended: `bad`, `fork`, `branches`, `quiet` if nothing is reported, or `agree`."""
@@ -344,11 +353,7 @@ class Wording:
                 other[1],
                 short(other[3]),
             )
-        if self.branches:
-            return 'Two branches: no two reports of one sequence differ, but reports of two sequences contradict each other.'
-        if self.kind() == 'quiet':
-            return 'Nothing is reported, so no two reports differ.'
-        return 'Agreed: no two reports of one sequence differ.'
+        return VERDICTS[self.kind()]
 
     def warnings(self, most):
         """Of reports on two branches, one node's first; so many of them."""
@@ -357,10 +362,7 @@ class Wording:
         return found + ['And %d more such pair%s.' % (more, '' if more == 1 else 's')] * bool(more)
 
     def warning(self, low, high):
-        return (
-            'Warning, two branches: %s reports %s (line %d) and %s %s (line %d), which doesn\'t follow it. '
-            'They are of different sequences, so this is no fork of the report, but both can\'t stand in one history.'
-        ) % (
+        return WARNING.format(
             self.who(low.node),
             self.ledger(low.sequence, low.ledger),
             low.event.line,

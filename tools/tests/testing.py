@@ -21,11 +21,6 @@ def run(tool, *words, text='', seconds=120):
     return subprocess.run(words, input=text, capture_output=True, text=True, timeout=seconds, env=environment)
 
 
-def at_line(outcome, line):
-    """An outcome of the feed as the report has it: a refusal by the line of the schedule."""
-    return ['refused', str(line), *outcome[2:]] if outcome[0] == 'refused' else outcome
-
-
 def main_with_toml():
     """Runs the tests, unless this Python is older than 3.11, and so has no reader of TOML."""
     if importlib.util.find_spec('tomllib') is None:
