@@ -98,11 +98,9 @@ class Story:
         self.declare(self.lines[: self.report.last_line])
         self.held = Held(self.names)
         self.events, self.frames, self.reports, self.behind, self.mark = [], [], [], [], 0
-        self.before = {number: State() for number in self.network.nodes}
+        self.before = {number: self.declared(node) for number, node in self.network.nodes.items()}
         self.now = dict(self.before)
         self.read(told)
-        if not self.events and self.network.nodes:
-            self.open(program)
 
     def declare(self, lines):
         self.network, self.names = schedules.Network(), schedules.Names()
@@ -110,6 +108,11 @@ class Story:
             if not schedules.is_passed_over(tokens):
                 self.network.declare(tokens)
                 self.names.declare(tokens)
+
+    @staticmethod
+    def declared(node):
+        """What is known of a node in a schedule without an event, of which nothing is told."""
+        return State(quorum=node.quorum, members=node.members, mode='observing' if node.observes else 'proposing')
 
     def read(self, told):
         gc.disable()  # all that is made here stays, and to look for what doesn't would take half of the time
@@ -120,15 +123,6 @@ class Story:
         finally:
             gc.freeze()
             gc.enable()
-
-    def open(self, program):
-        """Without an event nothing is told of the nodes, so one is asked what it prefers."""
-        declared = self.lines[: self.report.last_line]
-        asked = '\n'.join([*declared, 'prefer %d' % min(self.network.nodes), ''])
-        for tokens in map(str.split, tell(program, asked)[1]):
-            if tokens[0] == 'event':
-                break
-            self.hold(tokens)
 
     def take(self, tokens):
         """A line that is told."""

@@ -2,6 +2,9 @@
 'use strict'
 const SAYS = {
   replay: 'what every node refuses, reports and prefers, and whether two have forked',
+  picture: 'the run as a picture: a lane for each node, and time goes down',
+  steps: 'the run event by event, with what each node then holds; the arrow keys step',
+  tell: 'event by event what happens, what comes of it, which frames are sent, and what a node then holds',
   lists: 'what the trusted lists of each pair have in common',
   flags: 'what the votes on amendments and the fee change at each flag ledger',
   negative: 'the schedule again, with the lists that leave out members who are silent',
@@ -9,8 +12,10 @@ const SAYS = {
   show: 'what each frame of a stream says; the stream stands here as hexadecimal digits',
   gen: 'the summary of a schedule of so many rounds among seven nodes, which the program makes itself',
 }
+const TITLES = {steps: 'step by step'}
 const MOST_ROUNDS = 1000
 const WAIT = 350
+const OF_SCHEDULES = ['lists', 'tell', 'picture', 'steps']
 const inputs = JSON.parse(byId('inputs').textContent)
 const state = {command: 'replay', name: 'schedule.xl', rounds: 20, told: null, ran: 0}
 let timer = null
@@ -38,7 +43,9 @@ async function runLists() {
   }
 }
 
-const runOf = command => command === 'lists' ? runLists() : engine.run(command, inputOf(command), state.rounds)
+// What is drawn of a run is what `tell` writes.
+const programOf = view => Object.hasOwn(VIEWS, view) ? 'tell' : view
+const runOf = command => command === 'lists' ? runLists() : engine.run(programOf(command), inputOf(command), state.rounds)
 
 // Runs the command that is shown. A run that goes on ends, and nothing more is said of it.
 async function run() {
@@ -60,11 +67,19 @@ function draw() {
   if (refused) mark.put(Number(lastWords(words)[1]), causeOf(lastWords(words)[2], lastWords(words).slice(3)))
   say(...verdictOf(command, state.told, words))
   byId('took').textContent = state.told.fault ? '' : `status ${state.told.status}, ${state.told.ms.toFixed(1)} ms, ${(state.told.memory / 1048576).toFixed(1)} MB`
-  const parts = [element('p', 'says', `xl ${command}${command === 'gen' ? ' ' + state.rounds : ''}: ${SAYS[command]}.`)]
+  const begin = Object.hasOwn(VIEWS, command) ? '' : `xl ${command}${command === 'gen' ? ' ' + state.rounds : ''}: `
+  const parts = [element('p', 'says', `${begin}${SAYS[command]}.`)]
   if (command === 'gen') parts.push(roundsField())
   if (left && left.length) parts.push(element('p', 'says', `Left out, since lists reads no such lines: ${left.join(', ')}.`))
   if (command === 'lists' && state.told.status === 0) parts.push(matrixOf(words))
-  byId('told').replaceChildren(...parts, drawnText(words, command))
+  byId('told').replaceChildren(...parts, drawnView(command, words))
+}
+
+// A text, or of a run that came to its end what is drawn of it.
+function drawnView(command, words) {
+  const {status, text} = state.told
+  if (!Object.hasOwn(VIEWS, command) || ![0, 1, 3].includes(status)) return drawnText(words, command)
+  return VIEWS[command](new Story(latin(inputOf('tell')), status, latin(text)), state.name)
 }
 
 function roundsField() {
@@ -97,9 +112,9 @@ function show(command) {
 }
 
 function addTabs() {
-  const bar = document.querySelector('[role=tablist]'), names = [...Object.keys(SAYS).filter(it => known.commands.includes(it)), 'about']
+  const bar = document.querySelector('[role=tablist]'), names = [...Object.keys(SAYS).filter(it => known.commands.includes(programOf(it))), 'about']
   for (const name of names) {
-    const tab = element('button', '', name)
+    const tab = element('button', '', TITLES[name] || name)
     tab.id = 'tab-' + name
     tab.setAttribute('role', 'tab')
     tab.setAttribute('aria-controls', name === 'about' ? 'about' : 'told')
@@ -154,7 +169,7 @@ function load(name) {
   const found = inputs.find(it => it.name === name)
   if (!found) return false
   put(found.name.split('/').at(-1), found.text)
-  if (found.command !== state.command && !(found.command === 'replay' && state.command === 'lists')) show(found.command)
+  if (found.command !== state.command && !(found.command === 'replay' && OF_SCHEDULES.includes(state.command))) show(found.command)
   byId('examples').value = name
   return true
 }

@@ -20,5 +20,8 @@ LINES = {
     'gen': 'rounds',
     'lines': 'lines of the schedule that was made',
     'sent': 'frames were sent',
+    'tell event': 'line {0}, at the moment {1}',
+    'tell sent': 'frame {0} goes from node {1} to {2}',
+    'tell held': 'what node {0} then holds',
     'kept': 'the roll of line {0} isn\'t newer than the kept one',
 }

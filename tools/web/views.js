@@ -1,7 +1,7 @@
 // What is shown of a text that the program writes.
 'use strict'
 const MOST_COLOURED = 5000
-const fill = (text, values) => text.replace(/\{(\d)\}/g, (_, place) => values[place] ?? '?')
+const MOST_EVENTS = 400
 const linesOf = text => text.split('\n').slice(0, -1)
 const lastWords = text => (linesOf(text).at(-1) || '').split(' ')
 
@@ -23,12 +23,13 @@ function drawnLine(line, command) {
   const [word, ...values] = line.split(' '), isCounted = word === 'refused' && command === 'gen'
   if (command === 'show' || command === 'negative' && word !== 'bad') return coloured(line)
   const isRefusal = !isCounted && (word === 'refused' || word === 'bad')
+  const says = known.words[`${command} ${word}`] ?? known.words[word]
   const drawn = element(isRefusal ? 'button' : 'span', isRefusal ? 'line goes' : 'line', ...coloured(line))
   if (isRefusal) {
     const of = word === 'bad' || command === 'merge' ? 1 : 2
     drawn.dataset.says = causeOf(values[of], values.slice(of + 1))
     drawn.onclick = () => goTo(Number(values[0]))
-  } else if (Object.hasOwn(known.words, word)) drawn.dataset.says = fill(known.words[word], values)
+  } else if (says) drawn.dataset.says = fill(says, values)
   return [drawn]
 }
 
@@ -59,16 +60,39 @@ function cellOf(pair) {
   return cell
 }
 
+const OF_REPORTS = ['replay', 'tell', 'picture', 'steps', 'gen']
+
 // What is said of a run in one sentence, and whether it is good.
 function verdictOf(command, told, text) {
   if (told.fault) return [`The program ended: ${told.fault}`, 'wrong']
   if (told.status === 6) return ['Memory ran out.', 'wrong']
   if (told.status === 3) return [refusalOf(command, lastWords(text)), 'wrong']
   if (command === 'lists') return verdictOfLists(text)
-  if (command !== 'replay' && command !== 'gen') return ['All is written.', 'good']
+  if (!OF_REPORTS.includes(command)) return ['All is written.', 'good']
   const [, sequence, one, its, other, theirs] = lastWords(text)
   if (told.status === 1) return [`Fork at sequence ${sequence}: node ${one} reports ${its}, and node ${other} reports ${theirs}.`, 'wrong']
   return ['Agreed: no two reports of one sequence differ.', 'good']
+}
+
+// A picture is drawn where its style reaches nothing else.
+function drawnPicture(text) {
+  const host = element('div', 'picture')
+  host.attachShadow({mode: 'open'}).append(document.importNode(new DOMParser().parseFromString(text, 'image/svg+xml').documentElement, true))
+  return host
+}
+
+const VIEWS = {
+  picture(story, name) {
+    const brief = story.events.length > MOST_EVENTS
+    return drawnPicture(new Timeline(story, {first: null, last: null, brief, bare: false, scheme: 'auto', compact: true}, name).draw())
+  },
+
+  steps(story, name) {
+    const frame = element('iframe', 'steps')
+    frame.title = 'The run, step by step'
+    frame.srcdoc = new Steps(story, name).text(known.template)
+    return frame
+  },
 }
 
 function verdictOfLists(text) {

@@ -1,0 +1,127 @@
+// The page of one story, to be stepped through: what tools/page writes of it.
+'use strict'
+const MOST_DRAWN = 1000, MOST_TOLD = 10
+const ofMap = (map, made) => Object.fromEntries(sorted(map.keys()).map(it => [it, made(map.get(it))]))
+const isSame = (one, other) => JSON.stringify(one) === JSON.stringify(other)
+
+class Steps {
+  constructor(story, name) {
+    const shown = {first: story.events.length <= MOST_DRAWN ? 1 : null, last: null, scheme: 'auto', bare: true, brief: false, compact: true}
+    this.story = story
+    this.name = name
+    this.timeline = new Timeline(story, shown, name)
+    this.words = new Sentences(story)
+    this.hasRounds = hasRounds(story.lines)
+    Object.assign(this, {places: new Map(), ledgers: [], setPlaces: new Map(), sets: []})
+    this.picture = this.timeline.draw()
+    this.arrived = new Set(story.events.map(it => it.frame))
+  }
+
+  // The number of the ledger in the page's table.
+  ledger(token) {
+    const {names} = this.story, {shades} = this.timeline, found = names.idOf(token)
+    if (!this.places.has(found)) {
+      this.places.set(found, this.ledgers.length)
+      this.ledgers.push([names.short(found), inWords(found), this.timeline.colour(found), Number(shades.shared.has(found))])
+    }
+    return this.places.get(found)
+  }
+
+  pair(which) {
+    return which && [which[0], this.ledger(which[1])]
+  }
+
+  // The number of the set of transactions in the page's table. Its ids are known once a node stood for it.
+  set(found, ids = null) {
+    if (!this.setPlaces.has(found)) {
+      this.setPlaces.set(found, this.sets.length)
+      this.sets.push([found.slice(0, 8) + '…', found, null])
+    }
+    if (ids) {
+      const shorts = ids.map(it => this.story.names.short(it)), label = shorts.length <= 2 ? shorts.join(', ') : `${shorts.length} ids`
+      this.sets[this.setPlaces.get(found)] = [label || 'empty', found, shorts]
+    }
+    return this.setPlaces.get(found)
+  }
+
+  // A round: phase, mode, how many ids are pending, our position, and those of members with who agrees.
+  round(state) {
+    const position = state.phase === 'open' ? null : state.position
+    const ours = position && [this.set(position.set, state.set), position.sequence, position.close]
+    const positions = ofMap(state.positions, it => [this.set(it.set), it.sequence, it.close, Number(position !== null && it.set === position.set)])
+    return [state.phase, state.mode, state.pending.length, ours, positions]
+  }
+
+  // A row, with the event and the line by which it came.
+  row({sequence, ledger, full, signed, event, validated}) {
+    const {line} = this.story.events[event], place = this.ledger(ledger)
+    return [sequence, place, Number(full), signed, event, line, validated === null ? null : this.ledger(validated)]
+  }
+
+  state(state) {
+    const {time, quorum, members, kept, failed} = state, rows = ofMap(state.rows, it => this.row(it))
+    const found = {time, list: [quorum, members], kept, failed, report: this.pair(state.report), prefers: this.pair(state.prefers), on: this.ledger(state.on), rows}
+    return this.hasRounds ? {...found, round: this.round(state)} : found
+  }
+
+  // One event; the frames that it sent are pairs of receiver and kind by their numbers.
+  step(event, state) {
+    const found = {line: event.line, moment: event.moment, says: this.words.sentence(event), y: rounded(this.timeline.y.get(event.index))}
+    if (event.node !== null) found.node = event.node
+    if (event.outcomes.length) found.told = event.outcomes.map(it => [it[0], this.words.tell(it), it.join(' ')])
+    if (event.sent.length) found.sent = this.sentBy(event)
+    if (event.frame) found.frame = event.frame
+    if (event.word === 'drop' && Number(event.tokens[1]) <= Number(event.tokens[2])) found.dropped = event.tokens.slice(1, 3).map(Number)
+    if (state) found.state = this.state(state)
+    return found
+  }
+
+  sentBy(event) {
+    const first = this.story.frames.indexOf(event.sent[0]) + 1
+    return event.sent.map((it, place) => [first + place, it.receiver, it.kind, Number(this.arrived.has(first + place))])
+  }
+
+  data() {
+    const {network, events, behind} = this.story, before = ofMap(this.story.before, it => this.state(it))
+    const steps = events.map((it, place) => this.step(it, behind[place])), last = {...before}
+    for (const step of steps.filter(it => it.state)) {
+      const now = step.state
+      step.state = changesOf(last[step.node], now)
+      last[step.node] = now
+    }
+    const found = {
+      file: this.name, nodes: ofMap(network.nodes, it => it.observes), members: network.members(), liars: sorted(network.liars), before, steps,
+      earlier: {}, part: 0, top: rounded(this.timeline.top), x: ofMap(this.timeline.x, rounded),
+      fork: (this.words.fork || []).map(([event]) => event.index), branches: this.words.branches.slice(0, 1).flat().map(it => it.event.index),
+      ledgers: this.ledgers,
+    }
+    return this.hasRounds ? {...found, sets: this.sets} : found
+  }
+
+  // The page, by its template.
+  text(template) {
+    const {bad, forged} = this.story.report, paragraphs = some => some.map(it => `<p>${escaped(it)}</p>`).join('')
+    const notes = [...this.words.warnings(MOST_TOLD), ...this.words.notes(), ...(bad || forged ? [] : ['No frame is forged.'])]
+    const values = {
+      TITLE: escaped(this.timeline.title), FILE: escaped(this.name), KIND: this.words.kind(), VERDICT: escaped(this.words.verdict()),
+      NOTES: paragraphs(notes), ABOUT: paragraphs(firstComment(this.story.lines)), PICTURE: this.picture,
+      DATA: JSON.stringify(this.data()).replace(/</g, '\\u003c'), ONE: OF.ofOneSequence,
+    }
+    return template.split('@@').map((it, place) => place % 2 ? values[it] : it).join('')
+  }
+}
+
+// The digits of an id, or how its ledger is declared.
+function inWords(found) {
+  const [parent, close] = found.split(' ')
+  return close === undefined ? found : `declared: it follows ${parent}, and closes at ${close}`
+}
+
+// The parts of a state that are other ones now, and of its rows those, with null for each that went.
+function changesOf(before, now) {
+  const changed = (one, other) => Object.fromEntries(Object.entries(other).filter(([key, value]) => !isSame(value, one[key])))
+  const found = changed(before, now)
+  if (!found.rows) return found
+  const gone = Object.keys(before.rows).filter(it => !Object.hasOwn(now.rows, it)).map(it => [it, null])
+  return {...found, rows: {...Object.fromEntries(gone), ...changed(before.rows, now.rows)}}
+}
