@@ -45,10 +45,6 @@ class Item:
         return self.tokens[0] if self.tokens else 'deliver'
 
 
-class Unfollowed(Exception):
-    """The program came to its end, so it isn't told which frames are sent."""
-
-
 class Parts:
     """The deliveries and timers of each line of a schedule, one by one, as the program tells them."""
 
@@ -81,7 +77,7 @@ class Asking:
     """Which frames the items send, each as its delivery: `xl tell` runs beside, and is handed line after line.
 
     So that all is told of the lines that were put, a question is put behind them, which changes nothing: once the
-    program begins with it, it is through with them."""
+    program begins with it, it is through with them. Behind a refused line nothing is sent."""
 
     def __init__(self, program):
         streams = dict(stdin=subprocess.PIPE, stdout=subprocess.PIPE, stderr=subprocess.DEVNULL, bufsize=0)
@@ -138,7 +134,7 @@ class Asking:
         while True:
             while not self.lines:
                 if not self.read():
-                    raise Unfollowed('the program ended before it was through')
+                    return
             word, *more = self.lines.popleft().split(maxsplit=4)
             if word == b'event':
                 self.line = int(more[0])
