@@ -126,9 +126,57 @@ ANSWER_FORMS = forms(
 SHOWN_FORMS = BLAMED_FORK_FORMS + TWICE_FORMS + ANSWER_FORMS
 GIVEN_FORMS = forms('heard count=# given drained=#')
 CLEAR_FORMS, BLAMED_FORMS = forms('clear'), forms('blame wrong=# keys=# forks=# twice=#')
+POSITION, IDS, FLAG_OF = 'prev=@ set=@ pseq=# close=# time=#', 'ids=[-a-z0-9,]+', 'flag=(?:full|partial)'
+VALIDATION = 'seq=# id=@ signed=# ' + FLAG_OF
+ASKED = 'asked=(?:issue) node=# seq=# id=@ ' + FLAG_OF, 'asked=(?:timer) node=#'
+LIES = 'proposal ' + POSITION, 'validation ' + VALIDATION, 'validation %s validated=@' % VALIDATION, 'header id=@', 'set ' + IDS, 'tx id=@'
+SAID = (*LIES[:3], 'header seq=# id=@ parent=@ close=#', 'set count=# set=@', 'tx id=@')
+HAPPENS = (
+    'issue node=# seq=# id=@ ' + FLAG_OF,
+    *(it + ' node=#' for it in ('timer', 'restart', 'prefer', 'heard')),
+    'submit node=# id=@',
+    'deliver frame=#',
+    'drop',
+    'greet node=# peer=#',
+    *('%s held=(?:old|new) %s' % (it, asked) for it in ('cut', 'fail') for asked in ASKED),
+    'list node=# quorum=# members=' + MEMBERS,
+    *('lie from=# to=# said=(?:%s) %s' % tuple(it.split(' ', 1)) for it in LIES),
+    'raw node=# digits=[0-9a-f]+',
+)
+HOLDS = (
+    'time moment=#',
+    'kept seq=#',
+    'issuing issues=(?:on)',
+    'issuing issues=(?:off) seq=#',
+    'list quorum=# members=' + MEMBERS,
+    'row member=# ' + VALIDATION,
+    'row member=# %s validated=@' % VALIDATION,
+    'row member=# none',
+    'known count=#',
+    'ledger seq=# id=@ parent=@ close=#',
+    *('report %s%s' % (it, more) for it in ('seq=# id=@', 'none') for more in ('', ' list=(?:relisted)')),
+    'prefers seq=# id=@',
+    'prefers none',
+    'round phase=(?:open|establish|accepted) mode=(?:proposing|observing|switched) since=#',
+    'position ' + POSITION,
+    'set ' + IDS,
+    'pending ' + IDS,
+    'proposal member=# ' + POSITION,
+    'proposal member=# none',
+    'agreement agree=# positions=#',
+)
+
+
+def kinds(start, told):
+    """Lines that begin so and go on by their kind, the first word of each."""
+    return forms(*('%s kind=(?:%s)%s' % (start, *re.fullmatch('([a-z]+)(.*)', it).groups()) for it in told))
+
+
+TELL_FORMS = kinds('event line=# moment=#', HAPPENS) + kinds('sent frame=# from=# to=#', SAID) + kinds('held node=#', HOLDS)
 GEN_FORMS = forms('gen rounds=#', *(word + ' count=#' for word in ('lines', 'sent', 'refused', 'built', 'full')))
 FORMS = {
     'replay': OUTCOME_FORMS + SHORT_FORMS + FORGED_FORMS + VERDICT_FORMS + BAD_LINE_FORMS,
+    'tell': TELL_FORMS,
     'lists': PAIR_FORMS + PAPER_FORMS,
     'show': FRAME_FORMS + SHOW_END_FORMS,
     'node': REPORT_FORMS,
@@ -142,6 +190,7 @@ FORMS = {
 BAD_LINE, OUTCOME, SHORT, FORGED = lines(BAD_LINE_FORMS), lines(OUTCOME_FORMS), lines(SHORT_FORMS), lines(FORGED_FORMS)
 VERDICT, PAIR, PAPER, FRAME = lines(VERDICT_FORMS), lines(PAIR_FORMS), lines(PAPER_FORMS), lines(FRAME_FORMS)
 REPLAY_END, SHOW_END = SHORT + '*' + FORGED + VERDICT, lines(SHOW_END_FORMS)
+TOLD = '(?=(?:.*\n)*?event )(?:%s|%s)*' % (OUTCOME, lines(TELL_FORMS))
 REPORT, SETTINGS = lines(REPORT_FORMS), 'settings (?:.|\n)*\n'
 ENTRIES = 'frame|timer|submit|issue|greet|drain|reports|stop|stopped|relist'
 JOURNAL_LINE = '(?:(?:xl-journal 1|settings|key|%s)(?: [^\n]*)?\n)' % ENTRIES
@@ -161,6 +210,9 @@ WHOLE = {
     ('replay', 0): OUTCOME + '*' + REPLAY_END,
     ('replay', 1): OUTCOME + '*' + REPLAY_END,
     ('replay', 3): OUTCOME + '*' + BAD_LINE,
+    ('tell', 0): TOLD + REPLAY_END,
+    ('tell', 1): TOLD + REPLAY_END,
+    ('tell', 3): TOLD + BAD_LINE,
     ('lists', 0): '(?:%s(?:%s{2})?)*' % (PAIR, PAPER),
     ('lists', 3): BAD_LINE,
     ('show', 0): FRAME + '*' + SHOW_END,
