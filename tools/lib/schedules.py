@@ -193,17 +193,6 @@ class Network:
     def others(self, number):
         return [other for other in sorted([*self.nodes, *self.liars]) if other != number]
 
-    def slack(self, one, other):
-        """The least slack of two lists that these nodes ever had."""
-        return min(self.slack_of(ours, theirs) for ours in self.lists[one] for theirs in self.lists[other])
-
-    def slack_of(self, ours, theirs):
-        """Both quorums together, less what they must exceed."""
-        (our_quorum, our_members), (their_quorum, their_members) = ours, theirs
-        both = set(our_members) & set(their_members)
-        bound = len(our_members) + len(their_members) - len(both) + len(both & set(self.liars))
-        return our_quorum + their_quorum - bound
-
 
 def list_of(tokens):
     """The quorum and the members of a `node` or a `list` line."""

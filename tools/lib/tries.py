@@ -6,6 +6,7 @@ import collections
 import command
 import refusals
 import schedules
+from slack import slacks
 
 READ = ('xl-schedule', 'node', 'liar', 'limit', 'at', 'name')
 LAST_MOMENT, LAST_SECOND = 4 * 10**12, 2**32 - 1
@@ -44,7 +45,7 @@ def stop_where_refused(text, program):
 class Lists:
     """The declarations, and which pairs are the tightest."""
 
-    def __init__(self, text, as_declared=False):
+    def __init__(self, text, program, as_declared=False):
         self.network, self.names, self.moment = schedules.Network(), [], 1000
         self.lines, self.numbers = [], []
         found, self.left_out = declarations(text)
@@ -54,9 +55,7 @@ class Lists:
             if len(self.names) < 2 and name not in self.names:
                 self.take(0, ['name', name, digit * 64])
         self.declared = [] if as_declared else self.declare_members()
-        nodes = sorted(self.network.nodes)
-        pairs = [(one, other) for one in nodes for other in nodes if one <= other]
-        self.slack = {pair: self.network.slack(*pair) for pair in pairs}
+        self.slack = {pair: slack for pair, slack in sorted(slacks(program, self.network).items()) if pair[0] <= pair[1]}
         if not self.slack:
             command.stop('there is no node in the lists')
         self.least = min(self.slack.values())
