@@ -15,6 +15,8 @@ def asked(program, liars, lists):
     places, found = {number: place for place, number in enumerate(numbers)}, {}
     for word, one, other, _, _, total, bound, *_ in (it for it in report.outcomes if it[0] == 'pair'):
         found[places[int(one)], places[int(other)]] = int(total) - int(bound)
+    if len(found) != len(lists) * (len(lists) + 1) // 2:
+        command.stop('%s lists doesn\'t say what each two lists have in common' % program)
     return found
 
 
