@@ -142,7 +142,7 @@ class Story:
             tokens = ['drop', str(first), str(self.mark)]
         frame = int(tokens[1]) if tokens[0] == 'deliver' else None
         self.event = Event(len(self.events), int(line), tokens, self.node_of(tokens), int(moment), frame)
-        self.state = self.now.get(self.event.node)
+        self.state, self.nths = self.now.get(self.event.node), {}
         if not self.is_silent(self.event):
             self.events.append(self.event)
         if tokens[0] == 'list':
@@ -162,8 +162,8 @@ class Story:
         return int(tokens[2] if tokens[0] == 'lie' else schedules.inner_event(tokens)[1])
 
     def send(self, sender, receiver, said):
-        nth = sum(frame.receiver == receiver for frame in self.event.sent)
-        frame = Frame(sender, receiver, self.event.index, nth, said)
+        self.nths[receiver] = self.nths.get(receiver, -1) + 1
+        frame = Frame(sender, receiver, self.event.index, self.nths[receiver], said)
         self.event.sent.append(frame)
         self.frames.append(frame)
 

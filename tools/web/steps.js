@@ -69,16 +69,11 @@ class Steps {
     const found = {line: event.line, moment: event.moment, says: this.words.sentence(event), y: rounded(this.timeline.y.get(event.index))}
     if (event.node !== null) found.node = event.node
     if (event.outcomes.length) found.told = event.outcomes.map(it => [it[0], this.words.tell(it), it.join(' ')])
-    if (event.sent.length) found.sent = this.sentBy(event)
+    if (event.sent.length) found.sent = event.sent.map(it => [it.number, it.receiver, it.kind, Number(this.arrived.has(it.number))])
     if (event.frame) found.frame = event.frame
     if (event.word === 'drop' && Number(event.tokens[1]) <= Number(event.tokens[2])) found.dropped = event.tokens.slice(1, 3).map(Number)
     if (state) found.state = this.state(state)
     return found
-  }
-
-  sentBy(event) {
-    const first = this.story.frames.indexOf(event.sent[0]) + 1
-    return event.sent.map((it, place) => [first + place, it.receiver, it.kind, Number(this.arrived.has(first + place))])
   }
 
   data() {

@@ -64,7 +64,7 @@ class Story {
   }
 
   send(sender, receiver, said) {
-    const frame = {sender, receiver, event: this.event.index, said, kind: said[0]}
+    const frame = {number: this.frames.length + 1, sender, receiver, event: this.event.index, kind: said[0]}
     this.event.sent.push(frame)
     this.frames.push(frame)
   }
