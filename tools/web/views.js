@@ -74,10 +74,11 @@ function verdictOf(command, told, text) {
   return ['Agreed: no two reports of one sequence differ.', 'good']
 }
 
-// A picture is drawn where its style reaches nothing else.
+// A picture is drawn where its style reaches nothing else: as wide as the pane, if its words are still read then.
 function drawnPicture(text) {
-  const host = element('div', 'picture')
-  host.attachShadow({mode: 'open'}).append(document.importNode(new DOMParser().parseFromString(text, 'image/svg+xml').documentElement, true))
+  const host = element('div', 'picture'), drawn = new DOMParser().parseFromString(text, 'image/svg+xml').documentElement
+  const style = element('style', '', 'svg{display:block;max-width:max(100%,830px);height:auto}')
+  host.attachShadow({mode: 'open'}).append(style, document.importNode(drawn, true))
   return host
 }
 
