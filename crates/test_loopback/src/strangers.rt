@@ -188,45 +188,44 @@ fn a_peer_that_was_dialled_is_judged_too(rt: HostRuntime) -> Result<(), Fail> {
 }
 
 #[test]
-fn what_a_forger_is_not_told_is_left_for_the_next(rt: HostRuntime) -> Result<(), Fail> {
+fn a_forger_may_not_be_told_and_a_member_may(rt: HostRuntime) -> Result<(), Fail> {
     let clock = SystemClock::new(rt.clone()?);
     let Some((mut listening, mut stranger)) = pair(&rt)? else {
         return Err(Fail::from("no link on loopback"));
     };
     let mut member = another(&rt, &listening)?;
+    assert!(rt; !listening.may_tell());
     assert!(rt; gives(&clock, &mut stranger, &front()));
+    assert!(rt; stranger.may_tell());
     assert!(rt; opens(&clock, &mut listening));
-    // Each caller is greeted with the headers anew.
-    assert!(rt; listening.write(&header(1)) == Wrote::Took(164));
-    assert!(rt; listening.write(&front()) == Wrote::Took(FRAME));
+    assert!(rt; !listening.may_tell());
     let mut room = [0; FRAME];
     assert!(rt; listening.read(&mut room) == LinkRead::Got(FRAME));
+    assert!(rt; !listening.may_tell());
     listening.judged(Judgement::Forged);
+    assert!(rt; !listening.may_tell());
     assert!(rt; listening.read(&mut room) == LinkRead::End);
     assert!(rt; gives(&clock, &mut member, &front()));
     assert_eq!(rt; takes(&clock, &mut listening, &mut room), FRAME);
-    let told = stranger.read(&mut room);
-    assert!(rt; told == LinkRead::End || told == LinkRead::Failed);
+    assert!(rt; !listening.may_tell());
     listening.judged(Judgement::Known);
-    assert!(rt; listening.read(&mut room) == LinkRead::Idle);
-    assert!(rt; member.read(&mut room) == LinkRead::Got(FRAME));
-    assert!(rt; room == front());
+    assert!(rt; listening.may_tell());
     Ok(())
 }
 
 #[test]
-fn who_shows_nothing_for_a_second_is_told(rt: HostRuntime) -> Result<(), Fail> {
+fn who_shows_nothing_for_a_second_may_be_told(rt: HostRuntime) -> Result<(), Fail> {
     let clock = SystemClock::new(rt.clone()?);
     let Some((mut listening, mut dialling)) = pair(&rt)? else {
         return Err(Fail::from("no link on loopback"));
     };
     assert!(rt; opens(&clock, &mut dialling));
     assert!(rt; opens(&clock, &mut listening));
-    assert!(rt; listening.write(&front()) == Wrote::Took(FRAME));
+    assert!(rt; !listening.may_tell());
     let mut room = [0; FRAME];
-    for _ in 0..2 {
-        assert!(rt; listening.read(&mut room) == LinkRead::Idle);
-    }
+    assert!(rt; listening.read(&mut room) == LinkRead::Idle);
+    assert!(rt; listening.may_tell());
+    assert!(rt; listening.write(&front()) == Wrote::Took(FRAME));
     assert!(rt; dialling.read(&mut room) == LinkRead::Got(FRAME));
     Ok(())
 }
@@ -307,5 +306,31 @@ fn a_greeting_may_be_long(rt: HostRuntime) -> Result<(), Fail> {
         assert!(rt; &room[14..18] == sequence.to_be_bytes().as_slice());
         listening.judged(Judgement::Known);
     }
+    Ok(())
+}
+
+#[test]
+fn a_greeting_that_is_known_keeps_its_place_for_some_seconds(rt: HostRuntime) -> Result<(), Fail> {
+    let clock = SystemClock::new(rt.clone()?);
+    let Some((mut listening, mut gone)) = pair(&rt)? else {
+        return Err(Fail::from("no link on loopback"));
+    };
+    let mut greeting = another(&rt, &listening)?;
+    let mut member = another(&rt, &listening)?;
+    assert!(rt; opens(&clock, &mut gone));
+    drop(gone);
+    assert!(rt; gives(&clock, &mut greeting, &header(1)));
+    let mut room = [0; 164];
+    assert_eq!(rt; takes(&clock, &mut listening, &mut room), 164);
+    listening.judged(Judgement::Known);
+    assert!(rt; gives(&clock, &mut member, &front()));
+    let began = clock.now();
+    for _ in 0..10 {
+        if listening.read(&mut room) == LinkRead::End {
+            break;
+        }
+    }
+    let kept = clock.now().saturating_sub(began);
+    assert!(rt; 3000 < kept && kept < 7000);
     Ok(())
 }

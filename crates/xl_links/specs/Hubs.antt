@@ -14,7 +14,7 @@ use Rattle.xl_links.specs.Ways.{Target, target}
 
 -- a link to a member that says nothing
 abbrev pub silent_wire : Wire
-silent_wire = record { left = Some []; took = None; openings = None; readings = None; faults = 0 }
+silent_wire = record { left = Some []; took = None; openings = None; readings = None; permissions = None; faults = 0 }
 
 abbrev pub target_of : Asked → Target
 target_of asked = target asked.member asked.way

@@ -1,6 +1,6 @@
--- What a link to another member does: it is opened, it gives bytes and it takes bytes. Source: a TCP connection, with a
--- count of faults.
-use Rattle.std.specs.Prelude.{◌≡◌, ◌≢◌, ℕ, ◌<◌, ◌≤◌, List, [], ◌∷◌, length, take}
+-- What a link to another member does: it is opened, it gives bytes, it takes bytes, and it says whether its peer may be
+-- spoken to. Source: a TCP connection, with a count of faults; the question is this project's own.
+use Rattle.std.specs.Prelude.{◌≡◌, ◌≢◌, ℕ, ◌<◌, ◌≤◌, Bool, List, [], ◌∷◌, length, take}
 use Rattle.std.specs.declared.option.Option.{Option}
 use Rattle.std.specs.Io.KnownBytes.{prepend_known, append_known}
 use Rattle.xl_base.specs.Faults.{Rose}
@@ -20,13 +20,15 @@ pub data Reading : Type 0 where
   End : Reading
   Failed : Reading
 
--- what a link shows: the bytes that it still has to give, those that it took, and what its openings and its reads
--- answered, first to last, each if the link tells it; and how often a call has failed, up to the greatest `u64`
+-- what a link shows: the bytes that it still has to give, and those that it took; what its openings and its reads
+-- answered, first to last; and what it said when it was asked whether its peer may be spoken to. Each of these stands there
+-- if the link tells it. How often a call has failed stands there up to the greatest `u64`
 pub record Wire : Type 0 where
   pub left : Option (List ℕ)
   pub took : Option (List ℕ)
   pub openings : Option (List Opening)
   pub readings : Option (List Reading)
+  pub permissions : Option (List Bool)
   pub faults : ℕ
 
 -- the bytes that it gave
@@ -52,6 +54,7 @@ taken_of piece wrote.Failed = []
 pub record Opens (old : Wire) (answer : Opening) (new : Wire) : Type 0 where
   pub openings : AddsTold old.openings new.openings (answer ∷ [])
   pub readings : new.readings ≡ old.readings
+  pub permissions : new.permissions ≡ old.permissions
   pub left : new.left ≡ old.left
   pub took : new.took ≡ old.took
   pub later : old.faults ≤ new.faults
@@ -72,6 +75,7 @@ pub record Reads (old : Wire) (answer : LinkRead) (room : List ℕ) (new : Wire)
   pub took : new.took ≡ old.took
   pub openings : new.openings ≡ old.openings
   pub readings : AddsTold old.readings new.readings (reading_in room answer ∷ [])
+  pub permissions : new.permissions ≡ old.permissions
   pub later : old.faults ≤ new.faults
   pub failed : answer ≡ read.Failed → Rose old.faults new.faults
   pub exact : answer ≢ read.Failed → new.faults ≡ old.faults
@@ -83,6 +87,16 @@ pub record Writes (old : Wire) (answer : Wrote) (piece : List ℕ) (new : Wire) 
   pub left : new.left ≡ old.left
   pub openings : new.openings ≡ old.openings
   pub readings : new.readings ≡ old.readings
+  pub permissions : new.permissions ≡ old.permissions
   pub later : old.faults ≤ new.faults
   pub failed : answer ≡ wrote.Failed → Rose old.faults new.faults
   pub exact : answer ≢ wrote.Failed → new.faults ≡ old.faults
+
+-- what it says of whether its peer may be spoken to is told, and changes nothing else
+pub record Permits (old : Wire) (answer : Bool) (new : Wire) : Type 0 where
+  pub permissions : AddsTold old.permissions new.permissions (answer ∷ [])
+  pub left : new.left ≡ old.left
+  pub took : new.took ≡ old.took
+  pub openings : new.openings ≡ old.openings
+  pub readings : new.readings ≡ old.readings
+  pub faults : new.faults ≡ old.faults

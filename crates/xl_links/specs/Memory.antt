@@ -1,6 +1,6 @@
 -- What links and clocks in memory show: their content, their faults and their script. Source: this project's own, for
 -- tests of what is said over links.
-use Rattle.std.specs.Prelude.{ℕ, ◌&&◌, nat_le, min, max, Bool, List, [], ◌∷◌, map, Some, None, option_map, drop}
+use Rattle.std.specs.Prelude.{ℕ, ◌&&◌, nat_le, min, max, not, Bool, List, [], ◌∷◌, map, Some, None, option_map, drop}
 use Rattle.xl_base.specs.Counts.{one_more}
 use Rattle.xl_base.specs.Moments.{greatest_millis}
 use Rattle.xl_links.specs.declared.link.Opening.{Opening}
@@ -38,9 +38,16 @@ plain_piece link = link.piece
 abbrev pub piece_of : ℕ → ℕ → ℕ
 piece_of most bytes = min bytes (max most 1)
 
--- it tells nothing of what it takes, nor of its openings and reads
+-- it tells nothing of what it takes, nor of its openings, its reads and what it is asked
 abbrev pub plain_wire : PlainLink → Wire
-plain_wire link = record { left = Some (plain_left link); took = None; openings = None; readings = None; faults = 0 }
+plain_wire link = record {
+  left = Some (plain_left link);
+  took = None;
+  openings = None;
+  readings = None;
+  permissions = None;
+  faults = 0;
+}
 
 -- the same with a count of faults
 abbrev pub counted_wire : PlainLink → ℕ → Wire
@@ -72,12 +79,17 @@ list_of_readings link = record {
   room = (telling_of link.readings).room;
 }
 
+-- what it said when it was asked whether its peer may be spoken to, in such room
+abbrev pub list_of_permissions : MemLink → Telling Bool
+list_of_permissions link = telling_of link.permissions
+
 abbrev pub wire_of : MemLink → Wire
 wire_of link = record {
   left = Some (bytes_left link);
   took = Some (bytes_taken link);
   openings = (list_of_openings link).told;
   readings = (list_of_readings link).told;
+  permissions = (list_of_permissions link).told;
   faults = link.faults;
 }
 
@@ -90,7 +102,7 @@ abbrev pub calls_of : MemLink → Calls
 calls_of link = link.calls
 
 abbrev pub no_calls : Calls
-no_calls = record { openings = 0; reads = 0; writes = 0 }
+no_calls = record { openings = 0; reads = 0; writes = 0; questions = 0 }
 
 abbrev pub with_opening_call : Calls → Calls
 with_opening_call calls = record calls { openings = one_more calls.openings }
@@ -100,6 +112,9 @@ with_read_call calls = record calls { reads = one_more calls.reads }
 
 abbrev pub with_write_call : Calls → Calls
 with_write_call calls = record calls { writes = one_more calls.writes }
+
+abbrev pub with_question : Calls → Calls
+with_question calls = record calls { questions = one_more calls.questions }
 
 -- what the next opening answers
 abbrev pub next_opening : MemLink → Opening
@@ -127,6 +142,10 @@ course_of read.Failed = course.Fails
 -- the next write is to fail
 abbrev pub next_write_fails : MemLink → Bool
 next_write_fails link = is_listed (script_of link).failing_writes.items (one_more (calls_of link).writes)
+
+-- what it says next if it is asked whether its peer may be spoken to
+abbrev pub next_permission : MemLink → Bool
+next_permission link = not (is_listed (script_of link).untold.items (one_more (calls_of link).questions))
 
 -- the moment that a clock in memory began with
 abbrev pub first_moment : MemClock → ℕ

@@ -1,5 +1,5 @@
 ghost use Rattle.std.specs.Prelude.{◌≡◌, length};
-ghost use Rattle.xl_links.specs.Links.{Wire, Opens, Reads, Writes};
+ghost use Rattle.xl_links.specs.Links.{Wire, Opens, Permits, Reads, Writes};
 
 pub mod plain;
 pub mod scripted;
@@ -59,6 +59,11 @@ pub trait Link {
     /// Takes bytes from the front of the piece, at least one if there is one.
     fn write(&mut self, piece: &[u8]) -> Wrote
         ensures { Writes (shows self.old) result piece.now (shows self.new) };
+
+    /// Whether its peer may be spoken to now. It may not while nothing is known of it: what is said then would be lost
+    /// to whoever calls in a member's place.
+    fn may_tell(&mut self) -> bool
+        ensures { Permits (shows self.old) result (shows self.new) };
 
     /// Hears how the next of the frames was judged that it gave, since it knows no key itself.
     fn judged(&mut self, judgement: Judgement)

@@ -1,10 +1,10 @@
-ghost use Rattle.std.specs.Prelude.{◌≡◌, []};
+ghost use Rattle.std.specs.Prelude.{◌≡◌, [], not};
 
 use crate::link::Opening;
 use std::alloc::Global;
 
-/// The calls of a link in memory that are answered otherwise than by what it holds, by their numbers: openings, reads
-/// and writes are each counted from 1. Of a number in several lists of one kind the first list decides.
+/// The calls of a link in memory that are answered otherwise than by what it holds, by their numbers: openings, reads,
+/// writes and questions are each counted from 1. Of a number in several lists of one kind the first list decides.
 #[derive(Drop)]
 pub struct LinkScript {
     pub failing_openings: Vec<u64>,
@@ -16,6 +16,8 @@ pub struct LinkScript {
     /// The reads at which the connection ends, whatever is left.
     pub ends: Vec<u64>,
     pub failing_writes: Vec<u64>,
+    /// The questions to which it says that its peer may not be spoken to.
+    pub untold: Vec<u64>,
 }
 
 /// How a read goes.
@@ -35,6 +37,7 @@ impl LinkScript {
         ensures openings { (result.failing_openings.items ≡ []) × (result.not_yet.items ≡ []) }
         ensures reads { (result.failing_reads.items ≡ []) × (result.idle.items ≡ []) × (result.ends.items ≡ []) }
         ensures writes { result.failing_writes.items ≡ [] }
+        ensures questions { result.untold.items ≡ [] }
     {
         LinkScript {
             failing_openings: Vec::new(alloc),
@@ -43,6 +46,7 @@ impl LinkScript {
             idle: Vec::new(alloc),
             ends: Vec::new(alloc),
             failing_writes: Vec::new(alloc),
+            untold: Vec::new(alloc),
         }
     }
 
@@ -72,6 +76,13 @@ impl LinkScript {
         } else {
             Course::Gives
         }
+    }
+
+    /// Whether the peer may be spoken to at the question of this number.
+    pub(crate) fn permits(&self, number: u64) -> bool
+        ensures { result ≡ not (is_listed self.now.untold.items number) }
+    {
+        !self.untold.contains(&number)
     }
 
     /// Whether the write of this number fails.

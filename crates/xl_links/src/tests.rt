@@ -92,6 +92,18 @@ fn a_hub_gives_each_link_once(rt: HostRuntime) -> Result<(), Fail> {
 }
 
 #[test]
+fn questions_are_answered_by_their_numbers(rt: HostRuntime) -> Result<(), Fail> {
+    let alloc = rt.alloc();
+    let mut script = LinkScript::new(alloc);
+    script.untold.push(2)?;
+    let mut link = MemLink::new(alloc, Vec::new(alloc), 1, script, 0)?;
+    for answer in [true, false, true] {
+        assert!(rt; link.may_tell() == answer);
+    }
+    Ok(())
+}
+
+#[test]
 fn plain_forms_never_fail(rt: HostRuntime) -> Result<(), Fail> {
     let alloc = rt.alloc();
     let mut room = [0; 8];

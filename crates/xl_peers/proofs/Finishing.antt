@@ -22,8 +22,8 @@ use Rattle.xl_store.specs.Stores.{start_of, turns_of, IsWhy, Refused}
 use Rattle.xl_store.proofs.Making.{made_none, made_both}
 use Rattle.xl_peers.specs.declared.ends.End.{End}
 use Rattle.xl_peers.specs.declared.ends.End.TheVariants as end
-use Rattle.xl_peers.specs.Steps.{Step, drain, call_in, read_in, readings_in, drained_in, calls, bytes_read, bytes_drained}
-use Rattle.xl_peers.specs.Steps.{read_answers}
+use Rattle.xl_peers.specs.Steps.{Step, drain, call_in, read_in, readings_in, permissions_in, drained_in, calls, bytes_read, bytes_drained}
+use Rattle.xl_peers.specs.Steps.{read_answers, tell_answers}
 use Rattle.xl_peers.specs.Sessions.{Phase, IsSession, HandsFirst, IsDue, EndsBy, IsCutOff, IsCause, Session}
 use Rattle.xl_peers.specs.Going.{SoFar, SentFront, end_of}
 use Rattle.xl_peers.proofs.Stepping.{more, so_none}
@@ -45,6 +45,7 @@ module _ (start : Core) (turns : ℕ) (may_give : ℕ → Bool) (member : ℕ) (
     took = s.took;
     openings = s.openings;
     readings = s.readings;
+    permissions = s.permissions;
     later = s.later;
     cause = cause;
   }
@@ -91,6 +92,9 @@ module _ (start : Core) (turns : ℕ) (may_give : ℕ → Bool) (member : ℕ) (
         readings = tells_same w0.readings w.readings new_link.readings (read_answers s.steps)
             (read_answers (s.steps ++ step ∷ [])) sent.sent.readings
             (more readings_in s.steps step ∙ append-nil (read_answers s.steps)) s.readings;
+        permissions = tells_same w0.permissions w.permissions new_link.permissions (tell_answers s.steps)
+            (tell_answers (s.steps ++ step ∷ [])) sent.sent.permissions
+            (more permissions_in s.steps step ∙ append-nil (tell_answers s.steps)) s.permissions;
         later = let q = s.later in let r = sent.sent.later in omega arith;
         cause = rose;
       }
@@ -107,6 +111,7 @@ starts start may_give member k0 w0 = record {
   took = sym (append_known-none w0.took);
   openings = refl;
   readings = tells_nothing w0.readings;
+  permissions = tells_nothing w0.permissions;
   later = omega arith;
   first = record { frames = []; handed = refl; whole = refl; each = tt };
   bytes = λ i. omega arith;

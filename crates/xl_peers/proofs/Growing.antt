@@ -63,7 +63,7 @@ pub record Sending (old new : Wire) (all rest : List ℕ) : Type 0 where
   pub sent : Sent old front new
 
 pub sent_none : (w : Wire) → Sent w [] w
-sent_none w = record { took = sym (append_known-none w.took); left = refl; openings = refl; readings = refl; later = omega arith }
+sent_none w = record { took = sym (append_known-none w.took); left = refl; openings = refl; readings = refl; permissions = refl; later = omega arith }
 
 pub sent_both : (old mid new : Wire) (xs ys : List ℕ) → Sent old xs mid → Sent mid ys new → Sent old (xs ++ ys) new
 sent_both old mid new xs ys a b = record {
@@ -71,6 +71,7 @@ sent_both old mid new xs ys a b = record {
   left = b.left ∙ a.left;
   openings = b.openings ∙ a.openings;
   readings = b.readings ∙ a.readings;
+  permissions = b.permissions ∙ a.permissions;
   later = let p = a.later in let q = b.later in omega arith;
 }
 
@@ -84,4 +85,4 @@ sending_more old mid new all rest n s more = record {
 }
 
 pub sent_took : (old new : Wire) (n : ℕ) (rest : List ℕ) → Writes old (Took n) rest new → Sent old (take n rest) new
-sent_took old new n rest w = record { took = w.took; left = w.left; openings = w.openings; readings = w.readings; later = w.later }
+sent_took old new n rest w = record { took = w.took; left = w.left; openings = w.openings; readings = w.readings; permissions = w.permissions; later = w.later }

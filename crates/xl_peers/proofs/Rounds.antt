@@ -25,8 +25,8 @@ use Rattle.xl_peers.specs.declared.ends.End.{End}
 use Rattle.xl_peers.specs.declared.ends.End.TheVariants as end
 use Rattle.xl_peers.specs.declared.ends.Served.TheVariants as served
 use Rattle.xl_peers.specs.Sessions.{Session, IsCutOff, IsCause}
-use Rattle.xl_peers.specs.Steps.{bytes_drained, read_answers}
-use Rattle.xl_peers.specs.Serving.{Deed, Asked, Opened, Talked, calls_in, read_in, readings_in, drained_in, written_in}
+use Rattle.xl_peers.specs.Steps.{bytes_drained, read_answers, tell_answers}
+use Rattle.xl_peers.specs.Serving.{Deed, Asked, Opened, Talked, calls_in, read_in, readings_in, permissions_in, drained_in, written_in}
 use Rattle.xl_peers.specs.Serving.{opened_in}
 use Rattle.xl_peers.specs.Serving.{Round, after_answer, after_opening, after_session, served_of, IsServing, Serving}
 use Rattle.xl_peers.specs.Serving.{Serves, Follows}
@@ -78,6 +78,8 @@ module _ (start : Core) (may : ℕ → Bool) (member : ℕ) (k0 : Knowledge Entr
             (sym (same opened_in s.deeds d refl)) s.openings;
         readings = tells_same w0.readings w.readings w.readings (flat_map readings_in s.deeds)
             (flat_map readings_in (s.deeds ++ d ∷ [])) refl (same readings_in s.deeds d refl) s.readings;
+        permissions = tells_same w0.permissions w.permissions w.permissions (flat_map permissions_in s.deeds)
+            (flat_map permissions_in (s.deeds ++ d ∷ [])) refl (same permissions_in s.deeds d refl) s.permissions;
         later = s.later;
       }
 
@@ -105,6 +107,7 @@ module _ (start : Core) (may : ℕ → Bool) (member : ℕ) (k0 : Knowledge Entr
     all = s.all;
     openings = s.openings;
     readings = s.readings;
+    permissions = s.permissions;
     later = s.later;
   }
 
@@ -131,6 +134,8 @@ module _ (start : Core) (may : ℕ → Bool) (member : ℕ) (k0 : Knowledge Entr
             o.openings);
         readings = tells_same w0.readings w.readings new_link.readings (flat_map readings_in s.deeds)
             (flat_map readings_in (s.deeds ++ d ∷ [])) o.readings (same readings_in s.deeds d refl) s.readings;
+        permissions = tells_same w0.permissions w.permissions new_link.permissions (flat_map permissions_in s.deeds)
+            (flat_map permissions_in (s.deeds ++ d ∷ [])) o.permissions (same permissions_in s.deeds d refl) s.permissions;
         later = let p = s.later in let q = o.later in omega arith;
       }
 
@@ -166,6 +171,10 @@ module _ (start : Core) (may : ℕ → Bool) (member : ℕ) (k0 : Knowledge Entr
             (sym (more readings_in s.deeds d))
             (tells_both w0.readings w.readings new_link.readings (flat_map readings_in s.deeds) (read_answers t.steps)
             s.readings t.readings);
+        permissions = subst (λ (bs : List Bool). AddsTold w0.permissions new_link.permissions bs)
+            (sym (more permissions_in s.deeds d))
+            (tells_both w0.permissions w.permissions new_link.permissions (flat_map permissions_in s.deeds)
+            (tell_answers t.steps) s.permissions t.permissions);
         later = let p = s.later in let q = t.later in omega arith;
       }
 
@@ -203,6 +212,7 @@ serving_starts start may member k0 w0 = record {
   all = inr refl;
   openings = tells_nothing w0.openings;
   readings = tells_nothing w0.readings;
+  permissions = tells_nothing w0.permissions;
   later = omega arith;
 }
 

@@ -9,7 +9,7 @@ use Rattle.xl_wire.specs.Raws.{RawFrame, raw_bytes, IsRaw}
 use Rattle.xl_turns.specs.declared.view.Knowledge.{Knowledge}
 use Rattle.xl_links.specs.declared.link.LinkRead.{LinkRead}
 use Rattle.xl_links.specs.declared.link.LinkRead.TheVariants as read
-use Rattle.xl_links.specs.Links.{Wire, Reading, Reads, FitsRoom, bytes_of, reading_in}
+use Rattle.xl_links.specs.Links.{Wire, Reading, Reads, Permits, FitsRoom, bytes_of, reading_in}
 use Rattle.xl_links.specs.Tellings.{AddsTold}
 use Rattle.xl_core.specs.declared.event.CoreEvent.TheVariants.{Frame}
 use Rattle.xl_core.specs.Answers.{Answer, given_in}
@@ -18,10 +18,10 @@ use Rattle.xl_core.specs.Queues.{stream_of}
 use Rattle.xl_store.specs.declared.entry.Entry.{Entry}
 use Rattle.xl_store.specs.Calls.{Call, Made}
 use Rattle.xl_store.proofs.Making.{made_both}
-use Rattle.xl_peers.specs.Steps.{Step, Called, Read, frame, call_in, read_in, readings_in, drained_in, handed_in, handed_by}
-use Rattle.xl_peers.specs.Steps.{calls, bytes_read, bytes_drained, frames_handed, read_answers, IsLast}
-use Rattle.xl_peers.specs.Sessions.{Phase, IsSession, HandsFirst, NeedsMore, after_read}
-use Rattle.xl_peers.specs.Sessions.Phase.{Asks, Hands}
+use Rattle.xl_peers.specs.Steps.{Step, Called, Read, MayTell, frame, call_in, read_in, readings_in, permissions_in, drained_in, handed_in, handed_by}
+use Rattle.xl_peers.specs.Steps.{calls, bytes_read, bytes_drained, frames_handed, read_answers, tell_answers, IsLast}
+use Rattle.xl_peers.specs.Sessions.{Phase, IsSession, HandsFirst, NeedsMore, after_read, after_look}
+use Rattle.xl_peers.specs.Sessions.Phase.{Asks, Hands, Looks}
 use Rattle.xl_peers.specs.Going.{AreBytes, SoFar, Sent}
 use Rattle.xl_peers.proofs.Growing.{append_known-twice, prepend_known-twice, tells_both, tells_same}
 
@@ -108,6 +108,9 @@ module _ (start : Core) (may_give : ℕ → Bool) (member : ℕ) (k0 : Knowledge
     readings = tells_same w0.readings w.readings new_link.readings (read_answers s.steps)
         (read_answers (s.steps ++ Called c ∷ [])) sent.readings
         (more readings_in s.steps (Called c) ∙ append-nil (read_answers s.steps)) s.readings;
+    permissions = tells_same w0.permissions w.permissions new_link.permissions (tell_answers s.steps)
+        (tell_answers (s.steps ++ Called c ∷ [])) sent.permissions
+        (more permissions_in s.steps (Called c) ∙ append-nil (tell_answers s.steps)) s.permissions;
     later = let p = s.later in let q = sent.later in omega arith;
     first = first_stays s.steps (Called c) held refl none s.first;
     bytes = s.bytes;
@@ -148,6 +151,9 @@ module _ (start : Core) (may_give : ℕ → Bool) (member : ℕ) (k0 : Knowledge
         readings = subst (λ (rs : List Reading). AddsTold w0.readings new_link.readings rs)
             (sym (more readings_in s.steps (Read a)))
             (tells_both w0.readings w.readings new_link.readings (read_answers s.steps) (a ∷ []) s.readings reads.readings);
+        permissions = tells_same w0.permissions w.permissions new_link.permissions (tell_answers s.steps)
+            (tell_answers (s.steps ++ Read a ∷ [])) reads.permissions
+            (more permissions_in s.steps (Read a) ∙ append-nil (tell_answers s.steps)) s.permissions;
         later = let p = s.later in let q = reads.later in omega arith;
         first = first_read s.steps a held s.first;
         bytes = fit;
@@ -161,6 +167,37 @@ module _ (start : Core) (may_give : ℕ → Bool) (member : ℕ) (k0 : Knowledge
       → IsLast (so_read k w new_link held r room s reads some fit).steps (Read (reading_in room r))
   unfolding so_read
   read_last k w new_link held r room s reads some fit = (s.steps, refl)
+
+  -- the link was asked whether its peer may be spoken to
+  pub so_looked : (k : Knowledge Entry) (w new_link : Wire) (held : List ℕ) (answer : Bool)
+      → SoFar start may_give member k0 w0 Looks k w held
+      → Permits w answer new_link
+      → SoFar start may_give member k0 w0 (after_look answer) k new_link held
+  so_looked k w new_link held answer s p =
+      let step = MayTell answer in
+      record {
+        steps = s.steps ++ step ∷ [];
+        run = IsSession.looks s.steps answer s.run;
+        made = subst (λ cs. Made start k0 k cs) (sym (more call_in s.steps step ∙ append-nil (calls s.steps)))
+            s.made;
+        drawn = s.drawn;
+        read = s.read ∙ ap (λ (known : Option (List ℕ)). prepend_known (bytes_read s.steps) known) (sym p.left)
+            ∙ ap (λ (bs : List ℕ). prepend_known bs new_link.left)
+            (sym (more read_in s.steps step ∙ append-nil (bytes_read s.steps)));
+        took = p.took ∙ s.took
+            ∙ ap (append_known w0.took) (sym (more drained_in s.steps step ∙ append-nil (bytes_drained s.steps)));
+        openings = p.openings ∙ s.openings;
+        readings = tells_same w0.readings w.readings new_link.readings (read_answers s.steps)
+            (read_answers (s.steps ++ step ∷ [])) p.readings
+            (more readings_in s.steps step ∙ append-nil (read_answers s.steps)) s.readings;
+        permissions = subst (λ (bs : List Bool). AddsTold w0.permissions new_link.permissions bs)
+            (sym (more permissions_in s.steps step))
+            (tells_both w0.permissions w.permissions new_link.permissions (tell_answers s.steps) (answer ∷ [])
+            s.permissions p.permissions);
+        later = let q = s.later in let same = p.faults in omega arith;
+        first = first_stays s.steps step held refl refl s.first;
+        bytes = s.bytes;
+      }
 
   pub so_handed : (k new : Knowledge Entry) (w : Wire) (now : ℕ) (answer : Answer) (f : RawFrame) (rest : List ℕ)
       → SoFar start may_give member k0 w0 Hands k w (raw_bytes f ++ rest)
@@ -187,6 +224,9 @@ module _ (start : Core) (may_give : ℕ → Bool) (member : ℕ) (k0 : Knowledge
         openings = s.openings;
         readings = tells_same w0.readings w.readings w.readings (read_answers s.steps) (read_answers (s.steps ++ step ∷ [])) refl
             (more readings_in s.steps step ∙ append-nil (read_answers s.steps)) s.readings;
+        permissions = tells_same w0.permissions w.permissions w.permissions (tell_answers s.steps)
+            (tell_answers (s.steps ++ step ∷ [])) refl
+            (more permissions_in s.steps step ∙ append-nil (tell_answers s.steps)) s.permissions;
         later = s.later;
         first = first;
         bytes = fit;
@@ -205,6 +245,7 @@ module _ (start : Core) (may_give : ℕ → Bool) (member : ℕ) (k0 : Knowledge
     took = s.took;
     openings = s.openings;
     readings = s.readings;
+    permissions = s.permissions;
     later = s.later;
     first = s.first;
     bytes = s.bytes;
@@ -224,6 +265,7 @@ module _ (start : Core) (may_give : ℕ → Bool) (member : ℕ) (k0 : Knowledge
     took = s.took;
     openings = s.openings;
     readings = s.readings;
+    permissions = s.permissions;
     later = s.later;
     first = s.first;
     bytes = s.bytes;

@@ -23,9 +23,9 @@ use Rattle.xl_store.specs.Calls.{Made}
 use Rattle.xl_store.specs.Stores.{start_of, turns_of, Called}
 use Rattle.xl_peers.specs.declared.ends.End.{End}
 use Rattle.xl_peers.specs.declared.ends.End.TheVariants as end
-use Rattle.xl_peers.specs.Steps.{Step, calls, bytes_read, bytes_drained, read_answers}
+use Rattle.xl_peers.specs.Steps.{Step, calls, bytes_read, bytes_drained, read_answers, tell_answers}
 use Rattle.xl_peers.specs.Sessions.{Phase, IsSession, HandsFirst, NeedsMore, Session}
-use Rattle.xl_peers.specs.Sessions.Phase.{Asks, Reads, Hands, Drains}
+use Rattle.xl_peers.specs.Sessions.Phase.{Asks, Looks, Reads, Hands, Drains}
 
 abbrev pub AreBytes : List ℕ → Type 0
 AreBytes bytes = (i : ℕ) → get_or bytes i 0 < 256
@@ -40,6 +40,7 @@ pub record SoFar
   pub made : Made start old new (calls steps)
   pub drawn : old.drawn ≤ new.drawn
   pub readings : AddsTold old_link.readings new_link.readings (read_answers steps)
+  pub permissions : AddsTold old_link.permissions new_link.permissions (tell_answers steps)
   pub read : old_link.left ≡ prepend_known (bytes_read steps) new_link.left
   pub took : new_link.took ≡ append_known old_link.took (bytes_drained steps)
   pub openings : new_link.openings ≡ old_link.openings
@@ -68,6 +69,7 @@ pub record Sent (old : Wire) (bytes : List ℕ) (new : Wire) : Type 0 where
   pub left : new.left ≡ old.left
   pub openings : new.openings ≡ old.openings
   pub readings : new.readings ≡ old.readings
+  pub permissions : new.permissions ≡ old.permissions
   pub later : old.faults ≤ new.faults
 
 -- a front of them was
@@ -153,6 +155,18 @@ module _ {B K : Type 0} (store : Store B K) (member : ℕ) (old : Pass Entry) (o
   abbrev pub DrainsAll : {A : Type 0} → Result A End → Pass Entry → Wire → Type 0
   DrainsAll (Ok done) new new_link = DrainsOn Reads new new_link
   DrainsAll (Err e) new new_link = DrainsLast e new new_link
+
+  -- what waited for the peer was written, or it may not be spoken to
+  pub record TellsOn (new : Pass Entry) (new_link : Wire) : Type 0 where
+    pub on : (may_give : ℕ → Bool) (held : List ℕ)
+        → Goes (start_of store) may_give member Looks Reads (known old) old_link held (known new) new_link held
+    pub turns : (known old).drawn ≤ (known new).drawn
+
+  -- of the question and all drains of a turn
+  abbrev pub Tells : {A : Type 0} → Result A End → Pass Entry → Wire → Type 0
+  Tells (Ok done) new new_link = TellsOn new new_link
+  Tells (Err e) new new_link = (may_give : ℕ → Bool) (held : List ℕ)
+      → Ends (start_of store) may_give member (turns_of store) Looks (known old) old_link held (known new) new_link e
 
 module _ {B K : Type 0} (store : Store B K) (may_give : ℕ → Bool) (member : ℕ)
     (old : Pass Entry) (old_link : Wire) (fed : Fed) where

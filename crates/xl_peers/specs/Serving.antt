@@ -18,7 +18,7 @@ use Rattle.xl_peers.specs.declared.ends.End.{End}
 use Rattle.xl_peers.specs.declared.ends.End.TheVariants as end
 use Rattle.xl_peers.specs.declared.ends.Served.{Served}
 use Rattle.xl_peers.specs.declared.ends.Served.TheVariants as served
-use Rattle.xl_peers.specs.Steps.{Step, calls, bytes_read, bytes_drained, read_answers}
+use Rattle.xl_peers.specs.Steps.{Step, calls, bytes_read, bytes_drained, read_answers, tell_answers}
 use Rattle.xl_peers.specs.Sessions.{IsTalk}
 
 -- the store was asked whether the node is to stop; the link was opened; a session was held, of which these bytes were
@@ -52,6 +52,11 @@ abbrev pub readings_in : Deed → List Reading
 readings_in (Asked answer) = []
 readings_in (Opened answer) = []
 readings_in (Talked steps written e) = read_answers steps
+
+abbrev pub permissions_in : Deed → List Bool
+permissions_in (Asked answer) = []
+permissions_in (Opened answer) = []
+permissions_in (Talked steps written e) = tell_answers steps
 
 abbrev pub opened_in : Deed → List Opening
 opened_in (Asked answer) = []
@@ -100,7 +105,7 @@ pub data IsServing (may_give : ℕ → Bool) (member : ℕ) : List Deed → Roun
 
 -- A pass's serving of a member, as far as it came, at a store that was opened with this core: its calls stand in the
 -- history at the places that the pass gained, and the link gave the bytes that were read, took those that were written,
--- and answered these openings and these reads. If its count didn't rise, all that was drained was written
+-- and answered these openings, these reads and these questions. If its count didn't rise, all that was drained was written
 pub record Serving
     (start : Core) (may_give : ℕ → Bool) (member : ℕ)
     (old : Knowledge Entry) (old_link : Wire) (round : Round) (new : Knowledge Entry) (new_link : Wire) : Type 0 where
@@ -113,6 +118,7 @@ pub record Serving
   pub all : Rose old_link.faults new_link.faults ⊎ (flat_map written_in deeds ≡ flat_map drained_in deeds)
   pub openings : AddsTold old_link.openings new_link.openings (flat_map opened_in deeds)
   pub readings : AddsTold old_link.readings new_link.readings (flat_map readings_in deeds)
+  pub permissions : AddsTold old_link.permissions new_link.permissions (flat_map permissions_in deeds)
   pub later : old_link.faults ≤ new_link.faults
 
 -- the last deed

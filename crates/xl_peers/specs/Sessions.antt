@@ -1,6 +1,6 @@
 -- Sessions: which steps may follow one another, and how each ends.
 -- Source: this project's own; the frames of a stream are those of its layout.
-use Rattle.std.specs.Prelude.{◌≡◌, ◌≢◌, Bool, ℕ, ◌≤◌, ◌⊎◌, true, false, List, [], ◌∷◌, ◌++◌, map}
+use Rattle.std.specs.Prelude.{◌≡◌, ◌≢◌, Bool, ℕ, ◌≤◌, ◌⊎◌, true, false, List, [], ◌∷◌, ◌++◌, map, if◌then◌else◌}
 use Rattle.std.specs.List.{flat_map, AllByRecursion}
 use Rattle.std.specs.Io.KnownBytes.{prepend_known, append_known}
 use mathlib.Core.List.{IsPrefix}
@@ -17,8 +17,8 @@ use Rattle.xl_store.specs.declared.entry.Entry.{Entry}
 use Rattle.xl_store.specs.Calls.{Made}
 use Rattle.xl_peers.specs.declared.ends.End.{End}
 use Rattle.xl_peers.specs.declared.ends.End.TheVariants as end
-use Rattle.xl_peers.specs.Steps.{Step, Read, greet, stop_step, drain, frame, calls, bytes_read, bytes_drained}
-use Rattle.xl_peers.specs.Steps.{frames_handed, read_answers, IsLast}
+use Rattle.xl_peers.specs.Steps.{Step, Read, MayTell, greet, stop_step, drain, frame, calls, bytes_read, bytes_drained}
+use Rattle.xl_peers.specs.Steps.{frames_handed, read_answers, tell_answers, IsLast}
 
 -- What was handed to the core are the first frames of the bytes read, each once and in order, and this is the rest
 pub record HandsFirst (steps : List Step) (rest : List ℕ) : Type 0 where
@@ -35,10 +35,15 @@ NeedsMore bytes = (lack : ℕ) × (split_of bytes ≡ Split.Need lack)
 pub data Phase : Type 0 where
   Greets : Phase
   Asks : Phase
+  Looks : Phase
   Drains : Phase
   Reads : Phase
   Hands : Phase
   Ended : Phase
+
+-- what waits is drained only if the peer may be spoken to
+abbrev pub after_look : Bool → Phase
+after_look answer = if answer then Drains else Reads
 
 -- after a read that gave bytes their frames are handed over, after an idle one the next turn begins, and else the
 -- session ends
@@ -49,16 +54,18 @@ after_read Reading.End = Ended
 after_read Reading.Failed = Ended
 
 -- A session with a member, as far as it came, over a clock that may give these moments. It greets the member, and then
--- each turn asks whether to stop, drains until one drain gives nothing, reads once into a room that isn't empty, and
--- hands over each frame that this read made whole
+-- each turn asks whether to stop, asks the link whether its peer may be spoken to, and if it may drains until one drain
+-- gives nothing. Then it reads once into a room that isn't empty, and hands over each frame that this read made whole
 pub data IsSession (may_give : ℕ → Bool) (member : ℕ) : List Step → Phase → Type 0 where
   begins : IsSession may_give member [] Greets
   greets : (steps : List Step) → IsSession may_give member steps Greets
       → IsSession may_give member (steps ++ greet member ∷ []) Asks
   goes_on : (steps : List Step) → IsSession may_give member steps Asks
-      → IsSession may_give member (steps ++ stop_step false ∷ []) Drains
+      → IsSession may_give member (steps ++ stop_step false ∷ []) Looks
   stops : (steps : List Step) → IsSession may_give member steps Asks
       → IsSession may_give member (steps ++ stop_step true ∷ []) Ended
+  looks : (steps : List Step) (answer : Bool) → IsSession may_give member steps Looks
+      → IsSession may_give member (steps ++ MayTell answer ∷ []) (after_look answer)
   drains : (steps : List Step) (frames : List (List ℕ)) → IsSession may_give member steps Drains
       → stream_of frames ≢ []
       → IsSession may_give member (steps ++ drain member frames ∷ []) Drains
@@ -94,6 +101,7 @@ HasFrame bytes = (frame : RawFrame) × (more : List ℕ) × IsRaw frame × (byte
 abbrev pub IsDue : List Step → Phase → Type 0
 IsDue steps Greets = Unit {0}
 IsDue steps Asks = Unit {0}
+IsDue steps Looks = ⊥
 IsDue steps Drains = Unit {0}
 IsDue steps Reads = ⊥
 IsDue steps Hands = (rest : List ℕ) × HandsFirst steps rest × HasFrame rest
@@ -129,8 +137,8 @@ IsCause turns before after drawn end.OutOfMemory = Unit {0}
 IsCause turns before after drawn (end.StoreFull n) = (n ≡ turns) × (drawn ≡ turns)
 
 -- A whole session of a pass over a link, at a store that was opened with this core and has this many turns: its calls
--- stand in the history at the places that the pass gained, its reads are those that the link answered, each once and in
--- order, the link gave the bytes that were read and took those that were written, and no call of it opened the link
+-- stand in the history at the places that the pass gained, its reads and questions are those that the link answered, each
+-- once and in order, the link gave the bytes that were read and took those that were written, and no call of it opened the link
 pub record Session
     (start : Core) (turns : ℕ) (may_give : ℕ → Bool) (member : ℕ)
     (old : Knowledge Entry) (old_link : Wire) (e : End) (new : Knowledge Entry) (new_link : Wire) : Type 0 where
@@ -140,6 +148,7 @@ pub record Session
   pub made : Made start old new (calls steps)
   pub drawn : old.drawn ≤ new.drawn
   pub readings : AddsTold old_link.readings new_link.readings (read_answers steps)
+  pub permissions : AddsTold old_link.permissions new_link.permissions (tell_answers steps)
   pub read : old_link.left ≡ prepend_known (bytes_read steps) new_link.left
   pub took : new_link.took ≡ append_known old_link.took written
   pub openings : new_link.openings ≡ old_link.openings

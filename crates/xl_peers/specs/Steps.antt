@@ -1,4 +1,4 @@
--- What a session does, step by step: calls of the store, and reads of its link. Source: this project's own.
+-- What a session does, step by step: calls of the store, and reads and questions of its link. Source: this project's own.
 use Rattle.std.specs.Prelude.{◌≡◌, ℕ, Bool, List, [], ◌∷◌, ◌++◌}
 use Rattle.std.specs.List.{flat_map}
 use Rattle.xl_wire.specs.Lengths.{longest_frame}
@@ -10,9 +10,11 @@ use Rattle.xl_core.specs.Answers.{Answer, Done, Gave, Told, given_in}
 use Rattle.xl_core.specs.Queues.{stream_of}
 use Rattle.xl_store.specs.Calls.{Call}
 
+-- the store was called, the link was read, or it was asked whether its peer may be spoken to
 pub data Step : Type 0 where
   Called : Call → Step
   Read : Reading → Step
+  MayTell : Bool → Step
 
 abbrev pub greet : ℕ → Step
 greet member = Called (record { event = Greet member; answer = Done })
@@ -32,18 +34,27 @@ frame now bytes answer = Called (record { event = Frame now bytes; answer = answ
 abbrev pub call_in : Step → List Call
 call_in (Called call) = call ∷ []
 call_in (Read reading) = []
+call_in (MayTell answer) = []
 
 abbrev pub read_in : Step → List ℕ
 read_in (Called call) = []
 read_in (Read reading) = bytes_of reading
+read_in (MayTell answer) = []
 
 abbrev pub readings_in : Step → List Reading
 readings_in (Called call) = []
 readings_in (Read reading) = reading ∷ []
+readings_in (MayTell answer) = []
+
+abbrev pub permissions_in : Step → List Bool
+permissions_in (Called call) = []
+permissions_in (Read reading) = []
+permissions_in (MayTell answer) = answer ∷ []
 
 abbrev pub drained_in : Step → List ℕ
 drained_in (Called call) = stream_of (given_in call.answer)
 drained_in (Read reading) = []
+drained_in (MayTell answer) = []
 
 -- the bytes that an event hands to the core
 abbrev pub handed_by : CoreEvent → List (List ℕ)
@@ -61,6 +72,7 @@ handed_by (Relist now list) = []
 abbrev pub handed_in : Step → List (List ℕ)
 handed_in (Called call) = handed_by call.event
 handed_in (Read reading) = []
+handed_in (MayTell answer) = []
 
 -- its calls of the store, in order
 abbrev pub calls : List Step → List Call
@@ -73,6 +85,10 @@ bytes_read steps = flat_map read_in steps
 -- what its reads answered, in order
 abbrev pub read_answers : List Step → List Reading
 read_answers steps = flat_map readings_in steps
+
+-- what its link said when it was asked whether its peer may be spoken to, in order
+abbrev pub tell_answers : List Step → List Bool
+tell_answers steps = flat_map permissions_in steps
 
 -- all bytes that its drains gave
 abbrev pub bytes_drained : List Step → List ℕ

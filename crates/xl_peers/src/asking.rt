@@ -3,7 +3,7 @@ ghost use Rattle.xl_tags.specs.Rings.{key_of};
 ghost use Rattle.xl_turns.specs.Passes.{known};
 ghost use Rattle.xl_links.specs.Links.{Wire};
 ghost use Rattle.xl_store.specs.Stores.{start_of, turns_of, IsOf};
-ghost use Rattle.xl_peers.specs.Sessions.Phase.{Greets, Asks, Drains};
+ghost use Rattle.xl_peers.specs.Sessions.Phase.{Greets, Asks, Looks};
 ghost use Rattle.xl_peers.specs.Going.{Goes, Ends};
 
 use crate::ends::{End, end_of};
@@ -44,7 +44,7 @@ pub(crate) fn ask<W: Wait, B: Branch + Drop, K: Keeper + Drop>(
     requires pass { IsOf store.now pass.old }
     ensures pass { IsOf store.now pass.new }
     ensures on { OnOk result ((may : ℕ → Bool) (member : ℕ) (w : Wire) (held : List ℕ)
-        → Goes (start_of store.now) may member Asks Drains (known pass.old) w held (known pass.new) w held) }
+        → Goes (start_of store.now) may member Asks Looks (known pass.old) w held (known pass.new) w held) }
     ensures turn { OnOk result ((known pass.old).drawn < (known pass.new).drawn) }
     ensures ends { IfErr result (λ end. (may : ℕ → Bool) (member : ℕ) (w : Wire) (held : List ℕ)
         → Ends (start_of store.now) may member (turns_of store.now) Asks

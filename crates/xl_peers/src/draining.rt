@@ -2,7 +2,7 @@ ghost use Rattle.std.specs.Prelude.{◌≡◌, length, IsSome};
 ghost use Rattle.xl_tags.specs.Rings.{key_of};
 ghost use Rattle.xl_wire.specs.Lengths.{longest_frame};
 ghost use Rattle.xl_store.specs.Stores.{start_of, IsOf};
-ghost use Rattle.xl_peers.specs.Going.{DrainsOnce, DrainsAll};
+ghost use Rattle.xl_peers.specs.Going.{DrainsOnce, DrainsAll, Tells};
 
 use crate::ends::{End, end_of};
 use crate::sending::send;
@@ -38,8 +38,30 @@ fn drain_once<W: Wait, B: Branch + Drop, K: Keeper + Drop, L: Link>(
     }
 }
 
+/// Writes all that waits for the member, if the link says that its peer may be spoken to. If not, all of it waits on.
+pub(crate) fn tell<W: Wait, B: Branch + Drop, K: Keeper + Drop, L: Link>(
+    rt: &W,
+    store: &Store<B, K>,
+    pass: &mut Pass,
+    member: NodeNo,
+    link: &mut L,
+    room: &mut [u8],
+) -> Result<(), End>
+    requires pass { IsOf store.now pass.old }
+    requires peer { IsSome (key_of (start_of store.now).node.keys member) }
+    requires room { length room.old ≡ longest_frame }
+    ensures pass { IsOf store.now pass.new }
+    ensures room { length room.new ≡ longest_frame }
+    ensures told { Tells store.now member pass.old (L.shows link.old) result pass.new (L.shows link.new) }
+{
+    if !link.may_tell() {
+        return Ok(());
+    }
+    drain(rt, store, pass, member, link, room)
+}
+
 /// Writes all that waits for the member, until a drain gives nothing.
-pub(crate) fn drain<W: Wait, B: Branch + Drop, K: Keeper + Drop, L: Link>(
+fn drain<W: Wait, B: Branch + Drop, K: Keeper + Drop, L: Link>(
     rt: &W,
     store: &Store<B, K>,
     pass: &mut Pass,

@@ -2,8 +2,9 @@
 //! is written to the connection.
 //!
 //! A session greets the member. In each turn it asks whether the node is to stop, writes all that waits for the
-//! member, and reads once. Each frame that this read made whole is handed to the core, between two passes of a gate
-//! that lets a test hold it, and the link is told how it was judged. Serving a member is one session after the other, over one link.
+//! member if the link says that its peer may be spoken to, and reads once. Each frame that this read made whole is
+//! handed to the core, between two passes of a gate that lets a test hold it, and the link hears how it was judged.
+//! Serving a member is one session after the other, over one link.
 //!
 //! It stands on the store of xl_store, the links of xl_links and the feed of xl_wire. Its one contract: a session's
 //! calls, which stand in the store's history at the places that its pass gained, are those of its steps. What its

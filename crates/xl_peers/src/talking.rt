@@ -7,7 +7,7 @@ ghost use Rattle.xl_peers.specs.Sessions.{Session, NeedsMore};
 ghost use Rattle.xl_peers.specs.Going.{Hears, Turns};
 
 use crate::asking::{ask, greet};
-use crate::draining::drain;
+use crate::draining::tell;
 use crate::ends::End;
 use crate::handing::hand;
 use crate::host::Host;
@@ -129,7 +129,8 @@ fn hear<W: Wait, B: Branch + Drop, K: Keeper + Drop, L: Link, G: Gate, C: Clock>
     }
 }
 
-/// Asks whether to stop, writes what waits for the member, reads once, and hands over the frames that came.
+/// Asks whether to stop, writes what waits for the member if that may be spoken to, reads once, and hands over the
+/// frames that came.
 fn turn<W: Wait, B: Branch + Drop, K: Keeper + Drop, L: Link, G: Gate, C: Clock>(
     host: &Host<'_, W, G, C>,
     store: &Store<B, K>,
@@ -153,7 +154,7 @@ fn turn<W: Wait, B: Branch + Drop, K: Keeper + Drop, L: Link, G: Gate, C: Clock>
         Ok(()) => {}
         Err(end) => return Err(end),
     }
-    match drain(host.rt, store, pass, member, link, room) {
+    match tell(host.rt, store, pass, member, link, room) {
         Ok(()) => {}
         Err(end) => return Err(end),
     }

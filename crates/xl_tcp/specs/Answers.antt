@@ -15,7 +15,7 @@ use Rattle.xl_links.specs.Links.{Wire}
 
 -- it tells how often a call has failed, and nothing else
 abbrev pub untold : ℕ → Wire
-untold faults = record { left = None; took = None; openings = None; readings = None; faults = faults }
+untold faults = record { left = None; took = None; openings = None; readings = None; permissions = None; faults = faults }
 
 -- nothing happened within the time-out
 abbrev pub is_late : ErrorKind → Bool

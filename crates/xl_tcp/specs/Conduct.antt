@@ -1,7 +1,7 @@
 -- How a peer's frames are judged by whoever knows no key, and what of them may be given on. Source: this project's own:
 -- a peer shows one frame until that is judged, pays for each frame and for its bytes, and a member's greeting, whose
 -- headers go on from 1, has an allowance of its own.
-use Rattle.std.specs.Prelude.{ℕ, ◌+◌, ◌-◌, ◌^◌, ◌==◌, ◌&&◌, ◌||◌, min, nat_le, Bool, true, false, List, length, take, Option, Some, None, if◌then◌else◌}
+use Rattle.std.specs.Prelude.{ℕ, ◌+◌, ◌-◌, ◌^◌, ◌==◌, ◌&&◌, ◌||◌, min, nat_le, nat_lt, Bool, true, false, List, length, take, Option, Some, None, if◌then◌else◌}
 use Rattle.std.specs.Int.{from_be_bytes, w32}
 use Rattle.xl_wire.specs.Kinds.{span}
 use Rattle.xl_wire.specs.Raws.{RawFrame}
@@ -14,7 +14,7 @@ use Rattle.xl_tcp.specs.declared.conduct.Payment.{Payment}
 use Rattle.xl_tcp.specs.declared.conduct.Payment.TheVariants.{Free, Greeting, Frame, Lacking}
 use Rattle.xl_tcp.specs.declared.conduct.Conduct.{Conduct}
 use Rattle.xl_tcp.specs.Allowances.{left_at, after_cost}
-use Rattle.xl_tcp.specs.Numbers.{each_frame, each_header, frames_at_once, frames_each_milli, headers_at_once, headers_each_milli, longest_silence, longest_silence_at_first, patience, patience_at_first, patience_with_known}
+use Rattle.xl_tcp.specs.Numbers.{each_frame, each_header, frames_at_once, frames_each_milli, headers_at_once, headers_each_milli, longest_silence, longest_silence_at_first, patience, patience_at_first, patience_with_greeting, patience_with_known}
 
 -- a whole allowance, at its first moment
 abbrev pub full_at : ℕ → ℕ → ℕ → Allowance
@@ -32,6 +32,7 @@ begun_at greetings now = record {
   told = now;
   fresh = now;
   has_told = false;
+  has_greeted = false;
   greets = false;
   next_header = 1;
   greetings = greetings;
@@ -117,10 +118,18 @@ manner_by judged.Known = Member
 manner_by judged.Unlisted = Unlisted
 manner_by judged.Forged = Forger
 
--- what is fresh was told, and so was a known header of a greeting that goes on
+-- a header with which its greeting goes on comes in time: within 20 seconds, or two if it told nothing before
+abbrev pub is_in_time : Conduct → ℕ → Bool
+is_in_time peer now = nat_lt (now - peer.told) (if peer.has_told then patience else patience_at_first)
+
+-- what is fresh tells something, and so does a known header of a greeting that goes on in time
 abbrev pub after_judgement : Conduct → Judgement → ℕ → Conduct
 after_judgement peer judged.Fresh now = record peer { manner = Member; told = now; fresh = now; has_told = true }
-after_judgement peer judged.Known now = record peer { manner = Member; told = if peer.greets then now else peer.told }
+after_judgement peer judged.Known now = record peer {
+  manner = Member;
+  told = if peer.greets && is_in_time peer now then now else peer.told;
+  has_greeted = peer.greets || peer.has_greeted;
+}
 after_judgement peer judged.Unlisted now = record peer { manner = Unlisted }
 after_judgement peer judged.Forged now = record peer { manner = Forger }
 
@@ -132,8 +141,13 @@ silence_of other = longest_silence
 abbrev pub is_silent : Conduct → ℕ → Bool
 is_silent peer now = nat_le (silence_of peer.manner) (now - peer.latest)
 
--- nothing told for 20 seconds, or for two by one that never told anything; or known frames alone for five minutes
+-- how long it may tell nothing more: 20 seconds, five behind a greeting that is known, or two if it told nothing at all
+abbrev pub patience_of : Conduct → ℕ
+patience_of peer =
+    if peer.has_told then patience else if peer.has_greeted then patience_with_greeting else patience_at_first
+
+-- nothing told for so long; or known frames alone for five minutes
 abbrev pub is_over : Conduct → ℕ → Bool
 is_over peer now =
-    nat_le (if peer.has_told then patience else patience_at_first) (now - peer.told)
+    nat_le (patience_of peer) (now - peer.told)
     || nat_le patience_with_known (now - peer.fresh)

@@ -7,5 +7,5 @@ pub mod Conduct
 pub mod Callers
 pub mod Starts
 pub mod Waits
-pub mod Withholding
+pub mod Telling
 pub mod Granting

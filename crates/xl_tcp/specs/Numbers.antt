@@ -41,6 +41,10 @@ patience = 20000
 abbrev pub patience_at_first : ℕ
 patience_at_first = 2000
 
+-- behind a greeting that is known, with nothing else told
+abbrev pub patience_with_greeting : ℕ
+patience_with_greeting = 5000
+
 -- with known frames alone
 abbrev pub patience_with_known : ℕ
 patience_with_known = 300000
@@ -73,13 +77,6 @@ bytes_ahead = 48000000
 
 abbrev pub bytes_ahead_of_others : ℕ
 bytes_ahead_of_others = 16000000
-
--- so many are withheld from a caller at most, and so many are left for the next
-abbrev pub bytes_withheld : ℕ
-bytes_withheld = 4000000
-
-abbrev pub bytes_left : ℕ
-bytes_left = 65536
 
 -- ---- the clock
 

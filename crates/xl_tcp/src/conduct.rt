@@ -10,11 +10,13 @@ ghost use Rattle.xl_tcp.specs.Conduct.{
   goes_on,
   greetings_at,
   header_in,
+  is_in_time,
   is_over,
   is_silent,
   manner_by,
   may_give,
   may_greet,
+  patience_of,
   payment_of,
 };
 
@@ -50,6 +52,10 @@ const SILENCE_AT_FIRST: Millis = 300_000;
 const PATIENCE: Millis = 20_000;
 
 const PATIENCE_AT_FIRST: Millis = 2000;
+
+/// The same behind a greeting that is known, if it has told nothing else. A member that dials again after a cut may have
+/// nothing more to say until its next round.
+const PATIENCE_WITH_GREETING: Millis = 5000;
 
 /// For how long its frames may be known ones alone while another is due.
 const PATIENCE_WITH_KNOWN: Millis = 300_000;
@@ -102,6 +108,8 @@ pub(crate) struct Conduct {
     fresh: Millis,
     /// Whether one did.
     has_told: bool,
+    /// Whether its greeting went on with a known header.
+    has_greeted: bool,
     /// The latest frame was one with which a greeting goes on.
     greets: bool,
     /// The sequence of the header with which it goes on next.
@@ -121,6 +129,7 @@ impl Conduct {
             told: now,
             fresh: now,
             has_told: false,
+            has_greeted: false,
             greets: false,
             next_header: 1,
             greetings,
@@ -157,13 +166,33 @@ impl Conduct {
     pub(crate) fn is_over(&self, now: Millis) -> bool
         ensures { result ≡ is_over self.now now }
     {
+        now.saturating_sub(self.told) >= self.patience()
+            || now.saturating_sub(self.fresh) >= PATIENCE_WITH_KNOWN
+    }
+
+    /// A header with which its greeting goes on comes in time.
+    fn is_in_time(&self, now: Millis) -> bool
+        ensures { result ≡ is_in_time self.now now }
+    {
         let patience = if self.has_told {
             PATIENCE
         } else {
             PATIENCE_AT_FIRST
         };
-        now.saturating_sub(self.told) >= patience
-            || now.saturating_sub(self.fresh) >= PATIENCE_WITH_KNOWN
+        now.saturating_sub(self.told) < patience
+    }
+
+    /// For how long it may tell nothing more.
+    fn patience(&self) -> Millis
+        ensures { result ≡ patience_of self.now }
+    {
+        if self.has_told {
+            PATIENCE
+        } else if self.has_greeted {
+            PATIENCE_WITH_GREETING
+        } else {
+            PATIENCE_AT_FIRST
+        }
     }
 
     /// Notes how its next frame was judged.
@@ -177,7 +206,12 @@ impl Conduct {
                 self.fresh = now;
                 self.has_told = true;
             }
-            Judgement::Known if self.greets => self.told = now,
+            Judgement::Known if self.greets => {
+                self.has_greeted = true;
+                if self.is_in_time(now) {
+                    self.told = now;
+                }
+            }
             _ => {}
         }
     }

@@ -1,8 +1,8 @@
 ghost use Rattle.std.specs.Prelude.{◌≡◌, ◌≤◌, nat_lt, IfOk, length};
 ghost use Rattle.xl_tcp.specs.Conduct.{after_judgement};
 ghost use Rattle.xl_tcp.specs.Granting.{granted_of};
+ghost use Rattle.xl_tcp.specs.Telling.{may_tell};
 ghost use Rattle.xl_tcp.specs.Waits.{most_ahead, most_waits};
-ghost use Rattle.xl_tcp.specs.Withholding.{withholds};
 
 use crate::ahead::Ahead;
 use crate::answers::is_late;
@@ -11,8 +11,8 @@ use crate::moments::millis_of;
 use std::alloc::Global;
 use std::io::{self, ErrorKind, Read, Write};
 use std::net::OpenStream;
+use std::thread;
 use std::time::{Clock, Duration};
-use std::{mem, thread};
 use xl_base::Millis;
 use xl_links::Judgement;
 use xl_wire::{Parted, split};
@@ -53,9 +53,6 @@ const MOST_AHEAD: usize = 48_000_000;
 /// The same of a peer on no list, whose frames are all refused, and which is heard slowly.
 const MOST_AHEAD_OF_OTHERS: usize = 16_000_000;
 
-/// How many bytes are withheld from a caller at most: a greeting with some 24,000 headers.
-const MOST_WITHHELD: usize = 4_000_000;
-
 /// A connection with a peer. What it gives and takes isn't told.
 ///
 /// What comes is read ahead, and given frame by frame, as its conduct allows. A read waits a second for a byte, and once
@@ -65,14 +62,12 @@ const MOST_WITHHELD: usize = 4_000_000;
 /// peers that write to each other at once would else wait for each other. It fails if for 900 milliseconds no byte went
 /// either way, and in any case after five minutes, or one if the peer has shown no right tag yet.
 ///
-/// What is said to a caller is withheld until its first frame was judged, or a read came back without one. So whoever
-/// forges a frame is told nothing, and what it would have been told is left for the next caller.
+/// A caller may be spoken to once its first frame was judged, or a read came back without one. So whoever forges a frame
+/// hears nothing of a session that asks.
 #[derive(Drop)]
 pub(crate) struct Connection<S> {
-    alloc: Global,
     stream: S,
-    withheld: Vec<u8>,
-    /// Nothing is withheld from it: it was dialled, was told something, or a read came back without a frame of it.
+    /// It may be spoken to whatever it is: it was dialled, or a read came back without a frame of it.
     tells: bool,
     ahead: Ahead,
     /// How many of the bytes ahead may be given.
@@ -83,33 +78,20 @@ pub(crate) struct Connection<S> {
 impl<S: Read + Write + OpenStream + Drop> Connection<S> {
     /// With a peer that was dialled.
     pub(crate) fn dialled(alloc: Global, stream: S, conduct: Conduct) -> io::Result<Self> {
-        Connection::new(alloc, stream, conduct, Vec::new(alloc), true)
+        Connection::new(alloc, stream, conduct, true)
     }
 
-    /// With a caller, who is first told what was withheld from those before it.
-    pub(crate) fn called(
-        alloc: Global,
-        stream: S,
-        conduct: Conduct,
-        withheld: Vec<u8>,
-    ) -> io::Result<Self> {
-        Connection::new(alloc, stream, conduct, withheld, false)
+    /// With a caller.
+    pub(crate) fn called(alloc: Global, stream: S, conduct: Conduct) -> io::Result<Self> {
+        Connection::new(alloc, stream, conduct, false)
     }
 
-    fn new(
-        alloc: Global,
-        stream: S,
-        conduct: Conduct,
-        withheld: Vec<u8>,
-        tells: bool,
-    ) -> io::Result<Self> {
+    fn new(alloc: Global, stream: S, conduct: Conduct, tells: bool) -> io::Result<Self> {
         stream.set_read_timeout(Some(Duration::from_millis(READ_WAITS)))?;
         stream.set_write_timeout(Some(Duration::from_millis(WRITE_WAITS)))?;
         stream.set_nodelay(true)?;
         Ok(Connection {
-            alloc,
             stream,
-            withheld,
             tells,
             ahead: Ahead::new(alloc),
             granted: 0,
@@ -147,9 +129,11 @@ impl<S: Read + Write + OpenStream + Drop> Connection<S> {
         Ok(self.has_some(now))
     }
 
-    /// What was withheld from it.
-    pub(crate) fn withheld(&self) -> &[u8] {
-        &self.withheld
+    /// It may be spoken to now.
+    pub(crate) fn may_tell(&self) -> bool
+        ensures { result ≡ may_tell self.now.tells self.now.conduct.manner }
+    {
+        may_tell(self.tells, self.conduct.manner())
     }
 
     /// Reads the next bytes, at least one if there is room, or none at the connection's end.
@@ -157,9 +141,6 @@ impl<S: Read + Write + OpenStream + Drop> Connection<S> {
         ensures same { length room.new ≡ length room.old }
         ensures fits { IfOk result (λ count. count ≤ length room.new) }
     {
-        if !withholds(self.tells, self.conduct.manner()) {
-            self.tell_withheld()?;
-        }
         let answer = self.read_next(clock, room);
         if self.conduct.manner() == Manner::New {
             self.tells = true;
@@ -213,38 +194,8 @@ impl<S: Read + Write + OpenStream + Drop> Connection<S> {
         matches!(split(self.ahead.bytes()), Parted::Whole(_))
     }
 
-    /// Writes some of the piece, or withholds all of it.
-    pub(crate) fn write(&mut self, piece: &[u8]) -> io::Result<usize>
-        ensures { IfOk result (λ count. count ≤ length piece.now) }
-    {
-        let most = self.withheld.len().saturating_add(piece.len());
-        if withholds(self.tells, self.conduct.manner()) && most <= MOST_WITHHELD {
-            self.withheld.extend_from_slice(piece)?;
-            return Ok(piece.len());
-        }
-        self.tells = true;
-        self.tell_withheld()?;
-        self.write_now(piece)
-    }
-
-    /// Writes all that was withheld.
-    fn tell_withheld(&mut self) -> io::Result<()> {
-        let bytes = mem::replace(&mut self.withheld, Vec::new(self.alloc));
-        let mut told = 0;
-        for _ in 0..bytes.len() {
-            if told >= bytes.len() {
-                break;
-            }
-            match self.write_now(&bytes[told..])? {
-                0 => return Err(io::Error::from(ErrorKind::WriteZero)),
-                count => told = count.saturating_add(told),
-            }
-        }
-        Ok(())
-    }
-
     /// Writes some of the piece, and reads ahead while it can't.
-    fn write_now(&mut self, piece: &[u8]) -> io::Result<usize>
+    pub(crate) fn write(&mut self, piece: &[u8]) -> io::Result<usize>
         ensures { IfOk result (λ count. count ≤ length piece.now) }
     {
         let mut left = FRUITLESS_WAITS;
@@ -289,13 +240,13 @@ impl<S: Read + Write + OpenStream + Drop> Connection<S> {
     }
 }
 
-/// What is said to a caller of this manner is withheld, unless it is to be told.
-fn withholds(tells: bool, manner: Manner) -> bool
-    ensures { result ≡ withholds tells manner }
+/// A peer of this manner may be spoken to, or one that may be spoken to whatever it is.
+fn may_tell(tells: bool, manner: Manner) -> bool
+    ensures { result ≡ may_tell tells manner }
 {
     match manner {
-        Manner::New | Manner::Shown | Manner::Forger => !tells,
-        Manner::Unlisted | Manner::Member => false,
+        Manner::New | Manner::Shown | Manner::Forger => tells,
+        Manner::Unlisted | Manner::Member => true,
     }
 }
 

@@ -17,7 +17,6 @@ mod hub;
 mod laws;
 mod link;
 mod moments;
-mod withheld;
 
 pub use clock::SystemClock;
 pub use hub::TcpHub;

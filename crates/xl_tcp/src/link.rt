@@ -8,10 +8,8 @@ use crate::callers::Callers;
 use crate::conduct::{Conduct, Manner, greetings};
 use crate::connection::Connection;
 use crate::moments::millis_of;
-use crate::withheld::left_of;
 use std::alloc::Global;
 use std::io::{self, ErrorKind};
-use std::mem;
 use std::net::{Net, OpenListener, OpenStream, SocketAddr};
 use std::time::{Clock, Duration};
 use xl_base::Millis;
@@ -36,10 +34,10 @@ const PATIENCE: u64 = 900;
 /// fails.
 ///
 /// Anybody can call or answer, and the link knows no key. So it gives one frame of a peer, and waits until that is
-/// judged. What is said to a caller waits too, as long as a read takes, and what a forger would have been told is left
-/// for the next caller. The link lets go of whoever forged a frame, and of one that has sent no whole frame for a
-/// minute, or none at all for five. While another is due, a peer has 20 seconds from the latest fresh frame on, and two
-/// seconds at first; a greeting's headers count too, for five minutes. A read then says that no more bytes come.
+/// judged. A caller may not be spoken to before that either, or before a read came back without a frame, and a forger never.
+/// The link lets go of whoever forged a frame, and of one that has sent no whole frame for a minute, or none at all for
+/// five. While another is due, a peer has 20 seconds from the latest fresh frame on, and two seconds at first, or five
+/// with a greeting that is known; its headers count too, for five minutes. A read then says that no more bytes come.
 /// Another is due that has shown a frame, or has sent nothing for two seconds. What comes faster than a member says
 /// things is held back: a read answers Idle until it may be given.
 #[derive(Drop)]
@@ -49,8 +47,6 @@ pub struct TcpLink<R: Net> {
     address: Address<R::Listener>,
     callers: Callers<R::Stream>,
     greetings: Option<Allowance>,
-    /// What was said to callers who forged a frame, and wasn't told.
-    withheld: Vec<u8>,
     connection: Option<Connection<R::Stream>>,
     faults: u64,
 }
@@ -63,7 +59,6 @@ impl<R: Net + Drop> TcpLink<R> {
             address,
             callers: Callers::new(alloc),
             greetings: None,
-            withheld: Vec::new(alloc),
             connection: None,
             faults: 0,
         }
@@ -93,19 +88,17 @@ impl<R: Net + Clock + Drop> TcpLink<R> {
             Address::Bound(listener) => {
                 self.callers.admit_throng(listener, &self.net, now)?;
                 let stream = next_of(&mut self.callers, now)?;
-                let withheld = mem::replace(&mut self.withheld, Vec::new(self.alloc));
-                Connection::called(self.alloc, stream, conduct, withheld)
+                Connection::called(self.alloc, stream, conduct)
             }
         }
     }
 
-    /// Lets go of the connection, and keeps what members may still greet with, and what was withheld.
+    /// Lets go of the connection, and keeps what members may still greet with.
     fn leave(&mut self)
         ensures faults { self.new.faults ≡ self.old.faults }
     {
         if let Some(connection) = self.connection.take() {
             self.greetings = Some(connection.conduct().greetings());
-            self.withheld = left_of(self.alloc, connection.withheld());
         }
     }
 
@@ -187,6 +180,14 @@ impl<R: Net + Clock + Drop> Link for TcpLink<R> {
             self.faults = self.faults.saturating_add(1);
         }
         answer
+    }
+
+    /// Without a connection nobody may be spoken to.
+    fn may_tell(&mut self) -> bool {
+        match &self.connection {
+            Some(connection) => connection.may_tell(),
+            None => false,
+        }
     }
 
     fn judged(&mut self, judgement: Judgement) {

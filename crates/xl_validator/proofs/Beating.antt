@@ -13,7 +13,7 @@ use Rattle.xl_core.specs.declared.report.Report.{Report}
 use Rattle.xl_store.specs.declared.entry.Entry.{Entry}
 use Rattle.xl_store.specs.Calls.{Call, calls_of, Rise}
 use Rattle.xl_store.proofs.Journals.{length_calls}
-use Rattle.xl_peers.specs.Steps.{Step, Read, call_in, calls, drain, frame, greet, stop_step}
+use Rattle.xl_peers.specs.Steps.{Step, Read, MayTell, call_in, calls, drain, frame, greet, stop_step}
 use Rattle.xl_peers.specs.Sessions.{Phase, IsSession}
 use Rattle.xl_peers.specs.Serving.{Deed, Asked, Opened, Talked, Round, IsServing, calls_in}
 use Rattle.xl_heartbeat.specs.declared.ends.Ending.{Ending}
@@ -54,6 +54,7 @@ module _ (may_give : ℕ → Bool) (member : ℕ) where
   session_others steps phase (IsSession.greets ss run) = more call_in ss (greet member) (session_others ss _ run) (tt, tt)
   session_others steps phase (IsSession.goes_on ss run) = more call_in ss (stop_step false) (session_others ss _ run) (tt, tt)
   session_others steps phase (IsSession.stops ss run) = more call_in ss (stop_step true) (session_others ss _ run) (tt, tt)
+  session_others steps phase (IsSession.looks ss answer run) = more call_in ss (MayTell answer) (session_others ss _ run) tt
   session_others steps phase (IsSession.drains ss frames run some) =
       more call_in ss (drain member frames) (session_others ss _ run) (tt, tt)
   session_others steps phase (IsSession.drained ss frames run none) =

@@ -30,6 +30,10 @@ impl Link for CountedLink<'_> {
         self.source.write(piece)
     }
 
+    fn may_tell(&mut self) -> bool {
+        self.source.may_tell()
+    }
+
     fn judged(&mut self, judgement: Judgement) {
         self.source.judged(judgement);
     }

@@ -5,7 +5,8 @@ use std::alloc::Global;
 use xl_io::{Discard, Sink, Wrote};
 
 /// A link in memory that never fails: its count of faults is 0. It is open at once, and a connection ends if no byte is
-/// left. It takes what is written, and tells nothing of that, nor of its openings and reads.
+/// left. It takes what is written, its peer may always be spoken to, and it tells nothing of that, nor of its openings
+/// and reads.
 #[derive(Drop)]
 pub struct PlainLink {
     bytes: Vec<u8>,
@@ -53,10 +54,10 @@ impl PlainLink {
 }
 
 impl Link for PlainLink {
-    ghost use Rattle.std.specs.Prelude.{ℕ, min};
+    ghost use Rattle.std.specs.Prelude.{ℕ, min, true};
     ghost use Rattle.xl_links.specs.declared.link.LinkRead.TheVariants as read;
     ghost use Rattle.xl_links.specs.declared.script.Course.TheVariants as course;
-    ghost use Rattle.xl_links.specs.Links.{Opens, Reads};
+    ghost use Rattle.xl_links.specs.Links.{Opens, Permits, Reads};
     ghost use Rattle.xl_links.specs.Memory.{course_of, course_over, piece_of, plain_bytes, plain_left, plain_piece, plain_wire};
 
     ghost shows = { plain_wire };
@@ -90,6 +91,14 @@ impl Link for PlainLink {
 
     fn write(&mut self, piece: &[u8]) -> Wrote {
         Discard.write(piece)
+    }
+
+    fn may_tell(&mut self) -> bool
+        ensures permits { Permits (plain_wire self.old) result (plain_wire self.new) }
+        ensures always { result ≡ true }
+        ensures kept { plain_piece self.new ≡ plain_piece self.old }
+    {
+        true
     }
 
     fn judged(&mut self, _judgement: Judgement) {}

@@ -17,6 +17,7 @@ struct Calls {
     openings: u64,
     reads: u64,
     writes: u64,
+    questions: u64,
 }
 
 /// What a read answered, and how many bytes were given before.
@@ -26,8 +27,9 @@ struct Given {
     from: usize,
 }
 
-/// A link in memory, and the calls that are to fail, to find no peer, to be idle or to end its connection. It tells its
-/// openings and its reads while there is room for them. A write also fails if memory runs out.
+/// A link in memory, and the calls that are to fail, to find no peer, to be idle, to end its connection, or to say that
+/// its peer may not be spoken to. It tells its openings, its reads and what it is asked while there is room for them. A
+/// write also fails if memory runs out.
 #[derive(Drop)]
 pub struct MemLink {
     source: PlainLink,
@@ -35,16 +37,17 @@ pub struct MemLink {
     script: LinkScript,
     openings: Told<Opening>,
     readings: Told<Given>,
+    permissions: Told<bool>,
     calls: Calls,
     faults: u64,
 }
 
 impl MemLink {
-    ghost use Rattle.xl_links.specs.Memory.{bytes_taken, calls_of, link_piece, list_of_openings, list_of_readings, no_calls};
-    ghost use Rattle.xl_links.specs.Memory.{script_of, wire_of};
+    ghost use Rattle.xl_links.specs.Memory.{bytes_taken, calls_of, link_piece, list_of_openings, list_of_permissions, list_of_readings};
+    ghost use Rattle.xl_links.specs.Memory.{no_calls, script_of, wire_of};
     ghost use Rattle.xl_links.specs.Tellings.{nothing_told};
 
-    /// A link with these bytes to give, and with room to tell so many openings and as many reads. Reads give and writes
+    /// A link with these bytes to give, and with room to tell so many openings, as many reads and as many questions. Reads give and writes
     /// take at most `piece` bytes, 0 being read as 1. If no byte is left, a read that would give some ends the connection.
     pub fn new(
         alloc: Global,
@@ -58,6 +61,7 @@ impl MemLink {
         ensures taken { IfOk result (λ link. bytes_taken link ≡ []) }
         ensures openings { IfOk result (λ link. list_of_openings link ≡ nothing_told room) }
         ensures readings { IfOk result (λ link. list_of_readings link ≡ nothing_told room) }
+        ensures permissions { IfOk result (λ link. list_of_permissions link ≡ nothing_told room) }
         ensures faults { IfOk result (λ link. (wire_of link).faults ≡ 0) }
         ensures script { IfOk result (λ link. script_of link ≡ script) }
         ensures calls { IfOk result (λ link. calls_of link ≡ no_calls) }
@@ -68,10 +72,12 @@ impl MemLink {
             script,
             openings: Told::with_room(alloc, room)?,
             readings: Told::with_room(alloc, room)?,
+            permissions: Told::with_room(alloc, room)?,
             calls: Calls {
                 openings: 0,
                 reads: 0,
                 writes: 0,
+                questions: 0,
             },
             faults: 0,
         })
@@ -102,19 +108,22 @@ impl MemLink {
 impl Link for MemLink {
     ghost use Rattle.std.specs.Prelude.{IsTrue};
     ghost use Rattle.xl_io.specs.declared.sink.Wrote.TheVariants as wrote;
-    ghost use Rattle.xl_links.specs.Links.{Opens, Writes, reading_in};
+    ghost use Rattle.xl_links.specs.Links.{Opens, Permits, Writes, reading_in};
     ghost use Rattle.xl_links.specs.Memory.{
       bytes_left,
       calls_of,
       link_piece,
       list_of_openings,
+      list_of_permissions,
       list_of_readings,
       next_course,
       next_opening,
+      next_permission,
       next_write_fails,
       script_of,
       wire_of,
       with_opening_call,
+      with_question,
       with_read_call,
       with_write_call,
     };
@@ -129,6 +138,7 @@ impl Link for MemLink {
         ensures answer { result ≡ next_opening self.old }
         ensures list { list_of_openings self.new ≡ with_told (list_of_openings self.old) result }
         ensures readings { list_of_readings self.new ≡ list_of_readings self.old }
+        ensures permissions { list_of_permissions self.new ≡ list_of_permissions self.old }
         ensures calls { calls_of self.new ≡ with_opening_call (calls_of self.old) }
         ensures script { script_of self.new ≡ script_of self.old }
         ensures kept { link_piece self.new ≡ link_piece self.old }
@@ -152,6 +162,7 @@ impl Link for MemLink {
             → n ≡ piece_of (link_piece self.old) (min (length (bytes_left self.old)) (length room.old)) }
         ensures list { list_of_openings self.new ≡ list_of_openings self.old }
         ensures readings { list_of_readings self.new ≡ with_told (list_of_readings self.old) (reading_in room.new result) }
+        ensures permissions { list_of_permissions self.new ≡ list_of_permissions self.old }
         ensures calls { calls_of self.new ≡ with_read_call (calls_of self.old) }
         ensures script { script_of self.new ≡ script_of self.old }
         ensures kept { link_piece self.new ≡ link_piece self.old }
@@ -172,6 +183,7 @@ impl Link for MemLink {
         ensures piece { (n : ℕ) → result ≡ wrote.Took n → n ≡ piece_of (link_piece self.old) (length piece.now) }
         ensures list { list_of_openings self.new ≡ list_of_openings self.old }
         ensures readings { list_of_readings self.new ≡ list_of_readings self.old }
+        ensures permissions { list_of_permissions self.new ≡ list_of_permissions self.old }
         ensures calls { calls_of self.new ≡ with_write_call (calls_of self.old) }
         ensures script { script_of self.new ≡ script_of self.old }
         ensures kept { link_piece self.new ≡ link_piece self.old }
@@ -185,6 +197,24 @@ impl Link for MemLink {
         }
         self.faults = self.faults.saturating_add(1);
         Wrote::Failed
+    }
+
+    fn may_tell(&mut self) -> bool
+        ensures permits { Permits (wire_of self.old) result (wire_of self.new) }
+
+        // What the script makes of it.
+        ensures answer { result ≡ next_permission self.old }
+        ensures list { list_of_openings self.new ≡ list_of_openings self.old }
+        ensures readings { list_of_readings self.new ≡ list_of_readings self.old }
+        ensures permissions { list_of_permissions self.new ≡ with_told (list_of_permissions self.old) result }
+        ensures calls { calls_of self.new ≡ with_question (calls_of self.old) }
+        ensures script { script_of self.new ≡ script_of self.old }
+        ensures kept { link_piece self.new ≡ link_piece self.old }
+    {
+        self.calls.questions = self.calls.questions.saturating_add(1);
+        let answer = self.script.permits(self.calls.questions);
+        self.permissions.push(answer);
+        answer
     }
 
     fn judged(&mut self, _judgement: Judgement) {}

@@ -1,4 +1,4 @@
--- the answer decides: false goes on to the drains, true ends the session, and without a turn it ends there
+-- the answer decides: false goes on to the link, true ends the session, and without a turn it ends there
 use Rattle.std.proofs.Common.{◌≤◌, sym, refl, subst, arith}
 use Rattle.xl_turns.specs.Passes.{known}
 use Rattle.xl_core.specs.declared.event.CoreEvent.TheVariants.{Stopped}
@@ -6,7 +6,7 @@ use Rattle.xl_core.specs.Answers.{Told}
 use Rattle.xl_store.specs.Stores.{start_of, turns_of, Called}
 use Rattle.xl_peers.specs.declared.ends.End.TheVariants as end
 use Rattle.xl_peers.specs.Sessions.{Session, IsSession}
-use Rattle.xl_peers.specs.Sessions.Phase.{Asks, Drains, Ended}
+use Rattle.xl_peers.specs.Sessions.Phase.{Asks, Looks, Ended}
 use Rattle.xl_peers.proofs.Growing.{sent_none}
 use Rattle.xl_peers.proofs.Stepping.{so_called, called_last}
 use Rattle.xl_peers.proofs.Finishing.{ends, ends_refused}
@@ -16,7 +16,7 @@ pub returns-else-answer-clause-on : goal.returns-else-answer-clause-on
 returns-else-answer-clause-on g c may member w held k0 w0 s =
     let called = subst (λ b. Called c.args.store.now c.args.pass.now Stopped (Told b) c.stopped.new.pass)
     c.if-answer.false c.in-Ok.ensures.called in
-    so_called (start_of c.args.store.now) may member k0 w0 Asks Drains _ _ w w held _ s refl called.made (let more =
+    so_called (start_of c.args.store.now) may member k0 w0 Asks Looks _ _ w w held _ s refl called.made (let more =
     called.later in omega arith)
     (sent_none w) (IsSession.goes_on s.steps s.run)
 

@@ -17,6 +17,7 @@ returns-clause-read c =
       took = refl;
       openings = refl;
       readings = inl refl;
+      permissions = refl;
       later = omega arith;
       failed = λ no. absurd cc;
       exact = λ other. refl;
