@@ -11,6 +11,7 @@
 #![tactic(auto)]
 
 mod disputes;
+mod hashed_sets;
 mod index;
 mod moving;
 mod place;
@@ -22,5 +23,6 @@ mod tally;
 mod votes;
 
 pub use disputes::Disputes;
+pub use hashed_sets::HashedSets;
 pub use rising::{count_below, is_first, not_below};
 pub use votes::{Votes, threshold};
