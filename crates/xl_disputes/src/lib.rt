@@ -6,6 +6,7 @@
 //!
 //! It stands on xl_base and xl_pool. `open` takes all memory, and no later call takes any. An index has each id of a
 //! counted set once, with how many positions vote for it. Every call keeps it, so that `update` is one walk over it.
+//! Who has several of these hands each of them the same `HashedSets`, so that a set is mostly hashed once for all.
 //! Its one contract: `update` makes our set the lowest ids that win their vote, all votes being counted before any
 //! changes.
 #![tactic(auto)]
