@@ -23,7 +23,7 @@ ghost use Rattle.xl_core.specs.TimerParts.{outcome_by, asks_in, validating_reply
 
 use super::{Node, usual_mode};
 use crate::hashes::Hashes;
-use crate::last_built::{Basis, LastBuilt, Terms};
+use crate::last_built::{Basis, LastBuilt, NextLedger, Terms};
 use crate::timer_part::{Built, TimerPart};
 use crate::{OwnValidation, Refusal, TimerAnswer};
 use xl_base::{LedgerId, Millis};
@@ -184,20 +184,29 @@ impl<B: Branch + Drop> Node<B> {
             built_outcome self.old said.now moved_on (knowing_of self.old.ledgers (built_of self.old)) }
         ensures part { IsTimerPart self.new part.new }
     {
-        let next = built.next(&self.basis());
-        match self.know(&next.header, &next.id) {
+        let NextLedger { header, id } = self.next_ledger(built);
+        match self.know(&header, &id) {
             Some(ledger) => {
                 self.round.accept();
                 *part = TimerPart::Built(Built {
                     said: *said,
-                    header: next.header,
-                    id: next.id,
+                    header,
+                    id,
                     ledger,
                     moved_on,
                 });
             }
             None => *part = quiet(TimerAnswer::NoRoom(self.registry.limit()), said),
         }
+    }
+
+    /// The ledger that follows the previous one by what the round agreed on.
+    fn next_ledger(&self, built: &mut LastBuilt) -> NextLedger
+        requires ready { IsSome self.now.round.ready }
+        ensures header { result.header ≡ built_of self.now }
+        ensures id { result.id ≡ header_id result.header }
+    {
+        built.next(&self.basis())
     }
 
     /// What the next ledger is built on: the previous ledger, and what the round agreed on.
