@@ -23,3 +23,4 @@ pub mod Deeds
 pub mod Rest
 pub mod Lives
 pub mod CoreLives
+pub mod Hashing

@@ -16,6 +16,9 @@
 //! `core_happens` says of its event. So nothing is said before the keeper has saved its sequence. No call after `open`
 //! except `reopen` takes memory.
 //!
+//! Cores of one network may share what they hash, by the calls that end with `_with`: what one of them hashed isn't hashed
+//! again by the next, and each call is the same as without.
+//!
 //! ```
 //! let mut core = Core::open(alloc, settings, now, 0)?;
 //! core.timer(now, &mut keeper);
@@ -31,9 +34,11 @@
 mod core_answer;
 mod deed;
 mod event;
+mod hashes;
 mod hearing;
 mod item;
 mod last;
+mod last_built;
 mod laws;
 mod node;
 mod putting;
@@ -49,6 +54,7 @@ mod timer_part;
 pub use core_answer::CoreAnswer;
 pub use deed::Deed;
 pub use event::CoreEvent;
+pub use hashes::Hashes;
 pub use hearing::{Speech, Spoken};
 pub use item::Item;
 pub use last::LastReport;

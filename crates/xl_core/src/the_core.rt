@@ -26,8 +26,8 @@ ghost use Rattle.xl_core.specs.declared.refusal.Refusal.TheVariants.{NotAfter, I
 use crate::hearing::Tags;
 use crate::taken::UNHEARD;
 use crate::timer_answer::full_or_partial;
-use crate::timer_part::{Built, NOT_BEATEN, TimerPart};
-use crate::{Issued, Item, Node, Refusal, Report, Settings, Taken, TimerAnswer};
+use crate::timer_part::Built;
+use crate::{Hashes, Issued, Item, Node, Refusal, Report, Settings, Taken, TimerAnswer};
 use std::alloc::Global;
 use std::marker::Model;
 use xl_base::{LedgerId, MOST_MEMBERS, Millis, NodeNo, OutOfMemory, Seq, TxId};
@@ -42,6 +42,7 @@ mod door;
 mod draining;
 mod first;
 mod greeting;
+mod hashing;
 mod marks;
 mod outgoing;
 mod readers;
@@ -160,7 +161,7 @@ impl<B: Branch + Drop> Core<B> {
         ensures unsent { self.new.waiting ≡ self.old.waiting }
         ensures stop { (held : Held) → IsCovered held self.old → IsCovered held self.new }
     {
-        self.hear(now, Tags::Tested, bytes)
+        self.hear(now, Tags::Tested, bytes, &mut Hashes::none())
     }
 
     /// Hears bytes that come as if their sender had sealed them: the tag, the last 32 bytes of a frame, isn't looked at
@@ -179,7 +180,7 @@ impl<B: Branch + Drop> Core<B> {
         ensures unsent { self.new.waiting ≡ self.old.waiting }
         ensures stop { (held : Held) → IsCovered held self.old → IsCovered held self.new }
     {
-        self.hear(now, Tags::Assumed, bytes)
+        self.frame_as_sealed_with(now, bytes, &mut Hashes::none())
     }
 
     /// Hears a listed member's body as `frame` hears each frame that carries it, for less: it is for a world's frames.
@@ -201,19 +202,17 @@ impl<B: Branch + Drop> Core<B> {
         ensures unchanged { OnErr result (self.new ≡ record self.old { node = at_moment now self.old.node }) }
         ensures unsent { self.new.waiting ≡ self.old.waiting }
     {
-        let mut heard = UNHEARD;
-        self.node.hear_body(now, from, body, &mut heard);
-        match &heard {
-            Ok(heard) => {
-                push_report(&mut self.untaken, &heard.report);
-                return Ok(heard.taken);
-            }
-            Err(why) => return Err(*why),
-        }
+        self.frame_saying_with(now, from, body, &mut Hashes::none())
     }
 
     /// Hears bytes, with the tag tested or assumed.
-    fn hear(&mut self, now: Millis, tags: Tags, bytes: &[u8]) -> Result<Taken, Refusal>
+    fn hear(
+        &mut self,
+        now: Millis,
+        tags: Tags,
+        bytes: &[u8],
+        hashes: &mut Hashes,
+    ) -> Result<Taken, Refusal>
         requires moment { now ≤ greatest_millis }
         ensures step { Answers (core_happens self.old (Frame now (bytes_with tags self.old.node.keys bytes.now)) Kept)
             self.new (taken_answer result) }
@@ -224,7 +223,7 @@ impl<B: Branch + Drop> Core<B> {
         ensures stop { (held : Held) → IsCovered held self.old → IsCovered held self.new }
     {
         let mut heard = UNHEARD;
-        self.node.hear(now, tags, bytes, &mut heard);
+        self.node.hear(now, tags, bytes, hashes, &mut heard);
         match &heard {
             Ok(heard) => {
                 push_report(&mut self.untaken, &heard.report);
@@ -278,7 +277,6 @@ impl<B: Branch + Drop> Core<B> {
     /// the round's phase goes on; once it is ready the next ledger is built, its header is sent, the node validates it,
     /// and a round starts on it. A validation waits only after its save. If the save fails, the ledger and the new
     /// round stand all the same; if there is no room for the ledger, the round stays as it is.
-    #[inline(never)] // in its caller each other event would clear places for its many values
     pub fn timer<K: Keeper>(&mut self, now: Millis, keeper: &mut K) -> TimerAnswer
         requires moment { now ≤ greatest_millis }
         ensures step { Beaten self.old now result self.new }
@@ -292,15 +290,7 @@ impl<B: Branch + Drop> Core<B> {
         ensures later { K.faults keeper.old ≤ K.faults keeper.new }
         ensures stop { StaysCovered (K.held keeper.old) (K.held keeper.new) self.old self.new }
     {
-        let mut part = NOT_BEATEN;
-        self.node.timer(now, &mut part);
-        match &part {
-            TimerPart::Quiet { answer, said } => {
-                push_said(&mut self.waiting, &mut self.marks, said);
-                return *answer;
-            }
-            TimerPart::Built(built) => return self.conclude(built, keeper),
-        }
+        self.timer_with(now, keeper, &mut Hashes::none())
     }
 
     /// Sends the header of a built ledger and validates it.

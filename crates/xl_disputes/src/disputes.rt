@@ -15,7 +15,7 @@ ghost use Rattle.xl_disputes.specs.Standings.{weighed, standings, IsLast};
 
 use crate::set::SET_IDS;
 use crate::shares::{PLACES, Shares};
-use crate::{Votes, threshold};
+use crate::{HashedSets, Votes, threshold};
 use std::alloc::Global;
 use std::marker::Model;
 use xl_base::{MOST_MEMBERS, NodeNo, OutOfMemory, SetId, TxId};
@@ -134,7 +134,15 @@ impl Disputes {
         requires { IsSet set.now }
         ensures { self.new ≡ with_own self.old set.now }
     {
-        self.shares.take(OWN, set);
+        self.own_with(set, &mut HashedSets::none());
+    }
+
+    /// The same, and the set isn't hashed if it was lately.
+    pub fn own_with(&mut self, set: &[TxId], hashed: &mut HashedSets)
+        requires { IsSet set.now }
+        ensures { self.new ≡ with_own self.old set.now }
+    {
+        self.shares.take(OWN, set, hashed);
         self.settled = false;
     }
 
@@ -159,8 +167,17 @@ impl Disputes {
         ensures named { result ≡ set_id_of set.now }
         ensures taken { self.new ≡ with_held self.old member set.now }
     {
+        self.hold_with(member, set, &mut HashedSets::none())
+    }
+
+    /// The same, and the set isn't hashed if it was lately.
+    pub fn hold_with(&mut self, member: NodeNo, set: &[TxId], hashed: &mut HashedSets) -> SetId
+        requires { IsSet set.now }
+        ensures named { result ≡ set_id_of set.now }
+        ensures taken { self.new ≡ with_held self.old member set.now }
+    {
         let place = holding_of(member);
-        let id = self.shares.take(place, set);
+        let id = self.shares.take(place, set, hashed);
         self.last = self.last.max(place);
         self.settled = false;
         id
@@ -232,12 +249,21 @@ impl Disputes {
         ensures same { IsFalse result ↔ (winners self.old needed proposing ≡ self.old.own) }
         ensures taken { self.new ≡ with_own self.old (winners self.old needed proposing) }
     {
+        self.update_with(needed, proposing, &mut HashedSets::none())
+    }
+
+    /// The same, and our set isn't hashed if it was lately.
+    pub fn update_with(&mut self, needed: u32, proposing: bool, hashed: &mut HashedSets) -> bool
+        ensures changed { IsTrue result ↔ (winners self.old needed proposing ≢ self.old.own) }
+        ensures same { IsFalse result ↔ (winners self.old needed proposing ≡ self.old.own) }
+        ensures taken { self.new ≡ with_own self.old (winners self.old needed proposing) }
+    {
         settle_unless(self.settled, &mut self.shares, &self.positions, self.last);
         self.settled = true;
         self.shares.pick(&mut self.next, needed, proposing);
         let changed = self.next.as_slice() != self.shares.own().ids();
         if changed {
-            self.shares.replace(OWN, &self.next);
+            self.shares.replace(OWN, &self.next, hashed);
             self.settled = false;
         }
         changed

@@ -6,11 +6,13 @@
 //!
 //! It stands on xl_base and xl_pool. `open` takes all memory, and no later call takes any. An index has each id of a
 //! counted set once, with how many positions vote for it. Every call keeps it, so that `update` is one walk over it.
+//! Who has several of these hands each of them the same `HashedSets`, so that a set is mostly hashed once for all.
 //! Its one contract: `update` makes our set the lowest ids that win their vote, all votes being counted before any
 //! changes.
 #![tactic(auto)]
 
 mod disputes;
+mod hashed_sets;
 mod index;
 mod moving;
 mod place;
@@ -22,5 +24,6 @@ mod tally;
 mod votes;
 
 pub use disputes::Disputes;
+pub use hashed_sets::HashedSets;
 pub use rising::{count_below, is_first, not_below};
 pub use votes::{Votes, threshold};

@@ -47,13 +47,14 @@ ghost use Rattle.xl_disputes.specs.Holdings.{
   with_weight,
 };
 
+use crate::HashedSets;
 use crate::index::Index;
 use crate::place::Place;
 use crate::set::{SET_IDS, Set};
 use crate::tally::Tally;
 use std::alloc::Global;
 use std::marker::Model;
-use xl_base::{OutOfMemory, SetId, TxId, empty_set, set_id};
+use xl_base::{OutOfMemory, SetId, TxId, empty_set};
 
 /// A place for our own set, and one for each member's.
 pub(crate) const PLACES: usize = 65;
@@ -228,21 +229,32 @@ impl Shares {
     }
 
     /// The place holds the set of these ids, in place of an older one, and returns its id.
-    pub(crate) fn take(&mut self, place: usize, ids: &[TxId]) -> SetId
+    pub(crate) fn take(&mut self, place: usize, ids: &[TxId], hashed: &mut HashedSets) -> SetId
         requires within { place < PLACES }
         requires valid { IsSet ids.now }
         ensures named { result ≡ set_id_of ids.now }
         ensures taken { self.new ≡ changed (with_set (Some ids.now)) place self.old }
     {
         let _ = &self.places;
-        let id = self.id_of(ids);
+        let id = self.id_of(ids, hashed);
         self.release(place);
         self.fill(place, ids, id);
         id
     }
 
-    /// The id of the set of these ids. A set that is held already isn't hashed again.
-    fn id_of(&self, ids: &[TxId]) -> SetId
+    /// The id of the set of these ids. It isn't hashed if it was hashed lately, or is held already.
+    fn id_of(&self, ids: &[TxId], hashed: &mut HashedSets) -> SetId
+        requires { IsSet ids.now }
+        ensures { result ≡ set_id_of ids.now }
+    {
+        match hashed.known(ids) {
+            Some(id) => id,
+            None => self.held_id(ids, hashed),
+        }
+    }
+
+    /// The same of a set that wasn't hashed lately.
+    fn held_id(&self, ids: &[TxId], hashed: &mut HashedSets) -> SetId
         requires { IsSet ids.now }
         ensures { result ≡ set_id_of ids.now }
     {
@@ -253,18 +265,18 @@ impl Shares {
                 return set.id();
             }
         }
-        set_id(ids)
+        hashed.hash(ids)
     }
 
     /// The place holds the set of these ids, each of which is in some set already.
-    pub(crate) fn replace(&mut self, place: usize, ids: &[TxId])
+    pub(crate) fn replace(&mut self, place: usize, ids: &[TxId], hashed: &mut HashedSets)
         requires within { place < PLACES }
         requires valid { IsSet ids.now }
         requires counted { (tx : TxId) → has ids.now tx ≡ true → has (flat_map ids_in self.old) tx ≡ true }
         ensures { self.new ≡ changed (with_set (Some ids.now)) place self.old }
     {
         let _ = &self.places;
-        let id = self.id_of(ids);
+        let id = self.id_of(ids, hashed);
         let held = &mut self.places[place];
         self.index.move_part(held.ids(), ids, held.tally());
         held.fill(ids, id);

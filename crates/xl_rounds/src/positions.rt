@@ -46,7 +46,7 @@ use std::alloc::Global;
 use std::marker::Model;
 use xl_base::{MOST_MEMBERS, NodeNo, OutOfMemory, Secs, SetId, TxId};
 use xl_closetime::{Choice, choose_close};
-use xl_disputes::Disputes;
+use xl_disputes::{Disputes, HashedSets};
 use xl_wire::Proposal;
 
 /// A position is old once this many seconds have passed since it was taken.
@@ -227,12 +227,12 @@ impl Positions {
     }
 
     /// These ids are what the member holds, in place of older ones. Tells their id.
-    pub(crate) fn hold(&mut self, member: NodeNo, set: &[TxId]) -> SetId
+    pub(crate) fn hold(&mut self, member: NodeNo, set: &[TxId], hashed: &mut HashedSets) -> SetId
         requires { IsSet set.now }
         ensures named { result ≡ set_id_of set.now }
         ensures held { self.new ≡ with_held member set.now self.old }
     {
-        self.disputes.hold(member, set)
+        self.disputes.hold_with(member, set, hashed)
     }
 
     /// The member has neither a position nor a held set any more.
@@ -247,11 +247,11 @@ impl Positions {
     }
 
     /// These ids are our own set.
-    pub(crate) fn own(&mut self, set: &[TxId])
+    pub(crate) fn own(&mut self, set: &[TxId], hashed: &mut HashedSets)
         requires { IsSet set.now }
         ensures { self.new ≡ with_own set.now self.old }
     {
-        self.disputes.own(set);
+        self.disputes.own_with(set, hashed);
     }
 
     pub(crate) fn own_set(&self) -> &[TxId]
@@ -269,11 +269,11 @@ impl Positions {
 
     /// Our set is the next one by the votes, if a yes vote must weigh more than `needed` percent. Tells whether it
     /// changed.
-    pub(crate) fn update(&mut self, needed: u32, proposing: bool) -> bool
+    pub(crate) fn update(&mut self, needed: u32, proposing: bool, hashed: &mut HashedSets) -> bool
         ensures changed { result ≡ not (is_same_set (next_set needed proposing self.old) self.old.own) }
         ensures voted { self.new ≡ with_own (next_set needed proposing self.old) self.old }
     {
-        self.disputes.update_above(needed, proposing)
+        self.disputes.update_with(needed, proposing, hashed)
     }
 
     /// How many members have a position.

@@ -24,6 +24,7 @@ use crate::{Agreed, Mode, Phase, RoundRefusal};
 use std::alloc::Global;
 use std::marker::Model;
 use xl_base::{MOST_MEMBERS, Millis, NodeNo, OutOfMemory, SetId, TxId, secs_of};
+use xl_disputes::HashedSets;
 use xl_ledger::{LedgerNo, Registry};
 use xl_wire::Proposal;
 
@@ -190,7 +191,16 @@ impl Round {
         ensures named { result ≡ set_id_of set.now }
         ensures held { self.new ≡ hold_of member set.now self.old }
     {
-        self.positions.hold(member, set)
+        self.hold_with(member, set, &mut HashedSets::none())
+    }
+
+    /// The same, and the set isn't hashed if it was lately.
+    pub fn hold_with(&mut self, member: NodeNo, set: &[TxId], hashed: &mut HashedSets) -> SetId
+        requires { IsSet set.now }
+        ensures named { result ≡ set_id_of set.now }
+        ensures held { self.new ≡ hold_of member set.now self.old }
+    {
+        self.positions.hold(member, set, hashed)
     }
 
     /// The position by which a proposing node leaves the round in the phase establish, or None. The round stays as it

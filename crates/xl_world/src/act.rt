@@ -12,7 +12,7 @@ use crate::Outcome;
 use crate::place::{Fate, NodeCore, Place};
 use crate::saving::Fated;
 use xl_base::{LedgerId, NodeNo, Seq};
-use xl_core::{CoreAnswer, Deed, Issued, Report, TimerAnswer};
+use xl_core::{CoreAnswer, Deed, Hashes, Issued, Report, TimerAnswer};
 use xl_lists::{List, SaidLedger};
 
 /// What came of what happened at a node.
@@ -116,7 +116,13 @@ impl Place {
     /// its way would copy it.
     // Its values are many, and in the caller's they would be moved about.
     #[inline(never)]
-    pub fn happens(&mut self, deed: &Deed<'_>, fate: Fate, answer: &mut NodeAnswer)
+    pub fn happens(
+        &mut self,
+        deed: &Deed<'_>,
+        fate: Fate,
+        hashes: &mut Hashes,
+        answer: &mut NodeAnswer,
+    )
         requires rested { IsRested self.old.core }
         requires may { MayDo self.old.core.node.me deed.now }
         ensures place { self.new ≡ place_after self.old (deed_event self.old.core.node.me deed.now) fate }
@@ -130,7 +136,8 @@ impl Place {
             fate,
             asked: None,
         };
-        self.core.happen(deed, &mut fated, &mut answer.told);
+        self.core
+            .happen_with(deed, &mut fated, hashes, &mut answer.told);
         self.disk = fated.disk;
         answer.asked = fated.asked;
         note_said(me, deed, &answer.told, &mut answer.said);

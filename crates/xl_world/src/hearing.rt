@@ -17,7 +17,7 @@ use crate::act::{NodeAnswer, take_report};
 use crate::lie::{put_blank_lie, said_by};
 use crate::place::{Fate, NodeCore, Place};
 use xl_base::{Millis, NodeNo};
-use xl_core::{CoreAnswer, Deed, Refusal, Taken};
+use xl_core::{CoreAnswer, Deed, Hashes, Refusal, Taken};
 use xl_sched::Lied;
 use xl_wire::{Body, LONGEST_FRAME};
 
@@ -46,6 +46,7 @@ impl Place {
         now: Millis,
         frame: &Sent<'_>,
         room: &mut [u8; LONGEST_FRAME],
+        hashes: &mut Hashes,
         answer: &mut NodeAnswer,
     )
         requires rested { IsRested self.old.core }
@@ -60,9 +61,9 @@ impl Place {
         let _me = self.core.node().me().get();
         match frame.said() {
             Some(said) if is_heard(&self.core, from) => {
-                self.hears_body(now, from, &said.body(), answer);
+                self.hears_body(now, from, &said.body(), hashes, answer);
             }
-            _ => self.hears_bytes(now, frame, room, answer),
+            _ => self.hears_bytes(now, frame, room, hashes, answer),
         }
     }
 
@@ -73,6 +74,7 @@ impl Place {
         from: NodeNo,
         lie: &Lied,
         room: &mut [u8; LONGEST_FRAME],
+        hashes: &mut Hashes,
         answer: &mut NodeAnswer,
     )
         requires rested { IsRested self.old.core }
@@ -87,9 +89,9 @@ impl Place {
         match said_by(lie) {
             Some(said) => {
                 let to = self.core.node().me();
-                self.hears_sent(now, &Sent::saying(from, to, &said), room, answer);
+                self.hears_sent(now, &Sent::saying(from, to, &said), room, hashes, answer);
             }
-            None => self.hears_long_lie(now, from, lie, room, answer),
+            None => self.hears_long_lie(now, from, lie, room, hashes, answer),
         }
     }
 
@@ -101,6 +103,7 @@ impl Place {
         from: NodeNo,
         lie: &Lied,
         room: &mut [u8; LONGEST_FRAME],
+        hashes: &mut Hashes,
         answer: &mut NodeAnswer,
     )
         requires rested { IsRested self.old.core }
@@ -119,12 +122,19 @@ impl Place {
             now,
             bytes: &room[..length],
         };
-        self.happens(&deed, Fate::Saved, answer);
+        self.happens(&deed, Fate::Saved, hashes, answer);
     }
 
     /// The core hears what a listed member says in a frame, which asks no save. The report that arises is taken.
     #[inline(never)]
-    fn hears_body(&mut self, now: Millis, from: NodeNo, body: &Body<'_>, answer: &mut NodeAnswer)
+    fn hears_body(
+        &mut self,
+        now: Millis,
+        from: NodeNo,
+        body: &Body<'_>,
+        hashes: &mut Hashes,
+        answer: &mut NodeAnswer,
+    )
         requires rested { IsRested self.old.core }
         requires moment { now ≤ greatest_millis }
         requires other { from ≢ self.old.core.node.me }
@@ -138,7 +148,10 @@ impl Place {
         answer.said = None;
         answer.report = None;
         answer.relisted = false;
-        tell_taken(self.core.frame_saying(now, from, body), &mut answer.told);
+        tell_taken(
+            self.core.frame_saying_with(now, from, body, hashes),
+            &mut answer.told,
+        );
         take_report(&mut self.core, &mut answer.report);
     }
 
@@ -148,6 +161,7 @@ impl Place {
         now: Millis,
         frame: &Sent<'_>,
         room: &mut [u8; LONGEST_FRAME],
+        hashes: &mut Hashes,
         answer: &mut NodeAnswer,
     )
         requires rested { IsRested self.old.core }
@@ -163,6 +177,6 @@ impl Place {
             now,
             bytes: &room[..length],
         };
-        self.happens(&deed, Fate::Saved, answer);
+        self.happens(&deed, Fate::Saved, hashes, answer);
     }
 }

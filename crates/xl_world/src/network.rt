@@ -17,7 +17,7 @@ use crate::{InForce, Outcome, Plan, WorldReport, open};
 use std::alloc::Global;
 use std::marker::Model;
 use xl_base::{Millis, NodeNo, OutOfMemory};
-use xl_core::Deed;
+use xl_core::{Deed, Hashes};
 use xl_lists::SaidLedger;
 use xl_sched::What;
 use xl_wire::LONGEST_FRAME;
@@ -32,6 +32,8 @@ pub struct Network {
     pub places: Vec<Place>,
     /// What a drain writes into.
     pub room: Box<[u8; LONGEST_FRAME]>,
+    /// What its nodes hashed lately.
+    pub hashes: Hashes,
     pub traffic: Traffic,
     pub said: Vec<SaidLedger>,
     pub reports: Vec<WorldReport>,
@@ -79,6 +81,7 @@ impl Network {
             numbers: Members::new(open::numbers(alloc, plan)?),
             places,
             room: Box::new(alloc, [0; LONGEST_FRAME])?,
+            hashes: Hashes::none(),
             traffic: Traffic::new(alloc),
             said: Vec::new(alloc),
             reports: Vec::new(alloc),
@@ -135,7 +138,7 @@ impl Network {
             return Ok(());
         };
         let place = &mut self.places[k];
-        place.happens(deed, fate, answer);
+        place.happens(deed, fate, &mut self.hashes, answer);
         let seat = Seat {
             number: i,
             place: k,

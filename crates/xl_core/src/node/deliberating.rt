@@ -9,6 +9,7 @@ use super::Node;
 use crate::taken::Heard;
 use crate::{Refusal, Taken};
 use xl_base::{MOST_IDS, NodeNo, SetId, TxId, secs_of};
+use xl_disputes::HashedSets;
 use xl_ledger::Branch;
 use xl_rounds::Placed;
 use xl_wire::{Ids, Proposal};
@@ -66,36 +67,48 @@ impl<B: Branch + Drop> Node<B> {
     }
 
     /// A set is the one that the member holds from then on.
-    pub(super) fn hold(&mut self, from: NodeNo, ids: &Ids<'_>, heard: &mut Result<Heard, Refusal>)
+    pub(super) fn hold(
+        &mut self,
+        from: NodeNo,
+        ids: &Ids<'_>,
+        hashed: &mut HashedSets,
+        heard: &mut Result<Heard, Refusal>,
+    )
         ensures exact { hear_reply heard.new self.new ≡ speech_reply self.old from (speech.TxSet ids.now) }
         ensures refused { result_err heard.new ≡ None }
     {
         // Few sets are long, so few clear the long room.
         let id = if ids.len() <= SHORT_SET {
-            self.hold_through(&mut [TxId([0; 32]); SHORT_SET], from, ids)
+            self.hold_through(&mut [TxId([0; 32]); SHORT_SET], from, ids, hashed)
         } else {
-            self.hold_long(from, ids)
+            self.hold_long(from, ids, hashed)
         };
         *heard = Ok(unreported(Taken::Set(id)));
     }
 
     /// Holds a set that is too long for the short room. Inlined, it would clear its room for each set.
     #[inline(never)]
-    fn hold_long(&mut self, from: NodeNo, ids: &Ids<'_>) -> SetId
+    fn hold_long(&mut self, from: NodeNo, ids: &Ids<'_>, hashed: &mut HashedSets) -> SetId
         ensures { hear_reply (Ok (heard_set result)) self.new ≡ speech_reply self.old from (speech.TxSet ids.now) }
     {
         // A set has this many ids at most.
         let _count = ids.len();
-        self.hold_through(&mut [TxId([0; 32]); MOST_IDS], from, ids)
+        self.hold_through(&mut [TxId([0; 32]); MOST_IDS], from, ids, hashed)
     }
 
     /// Copies a set into a room, and holds it.
-    fn hold_through(&mut self, room: &mut [TxId], from: NodeNo, ids: &Ids<'_>) -> SetId
+    fn hold_through(
+        &mut self,
+        room: &mut [TxId],
+        from: NodeNo,
+        ids: &Ids<'_>,
+        hashed: &mut HashedSets,
+    ) -> SetId
         requires { length ids.now ≤ length room.old }
         ensures { hear_reply (Ok (heard_set result)) self.new ≡ speech_reply self.old from (speech.TxSet ids.now) }
     {
         let count = copy_ids(ids, room);
-        self.round.hold(from, &room[..count])
+        self.round.hold_with(from, &room[..count], hashed)
     }
 
     /// A transaction that a member sent is pending from then on, and isn't sent on.

@@ -1,9 +1,12 @@
-ghost use Rattle.std.specs.Prelude.{◌≡◌, ◌≤◌, OnErr, IsTrue, ℕ};
+ghost use Rattle.std.specs.Prelude.{◌≡◌, ◌↔◌, ◌<◌, ◌≤◌, IsOk, OnOk, OnErr, IsTrue, ℕ, length};
 ghost use Rattle.std.specs.Result.{result_err};
 ghost use Rattle.xl_base.specs.Moments.{greatest_millis};
 ghost use Rattle.xl_lists.specs.Lists.{is_on};
 ghost use Rattle.xl_wire.specs.Raws.{raw_frame};
+ghost use Rattle.xl_base.specs.Refusals.{unless_refused};
+ghost use Rattle.xl_ledger.specs.Chains.{Joins};
 ghost use Rattle.xl_ledger.specs.Reading.{header_in};
+ghost use Rattle.xl_ledger.specs.Registries.{add_refusal, with_header};
 ghost use Rattle.xl_core.specs.Node.{Frame, at_moment, bytes_reply, happens, speech_reply, speech_refusal, frame_refusal, HearsOthers};
 ghost use Rattle.xl_core.specs.Hearing.{bytes_with, speech_of, BeginsWith};
 ghost use Rattle.xl_core.specs.declared.hearing.Speech.TheVariants as speech;
@@ -11,12 +14,27 @@ ghost use Rattle.xl_core.specs.Replies.{hear_reply};
 ghost use Rattle.xl_core.specs.Issuing.Save.{Kept};
 
 use super::{Node, report_by};
+use crate::hashes::Hashes;
 use crate::hearing::{Tags, opened};
+use crate::last_built::LastBuilt;
 use crate::taken::{Heard, UNHEARD};
 use crate::{Refusal, Taken};
 use xl_base::{Millis, NodeNo, secs_of};
-use xl_ledger::{Branch, Header, read_header};
+use xl_ledger::{AddRefusal, Branch, Header, LedgerNo, Registry, read_header};
 use xl_wire::{Body, Parted, Raw, Validation, read_body, split};
+
+/// Adds a header to the known ledgers. It isn't hashed if it is that of the ledger that was built last.
+fn add(registry: &mut Registry, h: &Header, built: &LastBuilt) -> Result<LedgerNo, AddRefusal>
+    ensures exact { result ≡ unless_refused (add_refusal registry.old h.now) (length registry.old.headers) }
+    ensures joins { IsOk result ↔ (Joins registry.old.headers h.now × (length registry.old.headers < registry.old.limit)) }
+    ensures added { OnOk result (registry.new ≡ with_header registry.old h.now) }
+    ensures refused { OnErr result (registry.new ≡ registry.old) }
+{
+    match built.id_of(h) {
+        Some(id) => registry.add_named(h, &id),
+        None => registry.add(h),
+    }
+}
 
 impl<B: Branch + Drop> Node<B> {
     /// Hears bytes that come, and says what they give to report.
@@ -37,7 +55,7 @@ impl<B: Branch + Drop> Node<B> {
         ensures others { HearsOthers self.old bytes.now }
     {
         let mut heard = UNHEARD;
-        self.hear(now, Tags::Tested, bytes, &mut heard);
+        self.hear(now, Tags::Tested, bytes, &mut Hashes::none(), &mut heard);
         heard
     }
 
@@ -49,6 +67,7 @@ impl<B: Branch + Drop> Node<B> {
         now: Millis,
         tags: Tags,
         bytes: &[u8],
+        hashes: &mut Hashes,
         heard: &mut Result<Heard, Refusal>,
     )
         requires moment { now ≤ greatest_millis }
@@ -63,7 +82,7 @@ impl<B: Branch + Drop> Node<B> {
         // Its keys are its own.
         let _ = &self.keys;
         match &split(bytes) {
-            Parted::Whole(raw) => self.hear_frame(tags, raw, bytes, heard),
+            Parted::Whole(raw) => self.hear_frame(tags, raw, bytes, hashes, heard),
             Parted::Need(lack) => *heard = Err(Refusal::Short(*lack)),
             Parted::Refused(why) => *heard = Err(Refusal::Frame(*why)),
         }
@@ -76,6 +95,7 @@ impl<B: Branch + Drop> Node<B> {
         now: Millis,
         from: NodeNo,
         body: &Body<'_>,
+        hashes: &mut Hashes,
         heard: &mut Result<Heard, Refusal>,
     )
         requires moment { now ≤ greatest_millis }
@@ -84,7 +104,7 @@ impl<B: Branch + Drop> Node<B> {
         ensures unchanged { OnErr heard.new (self.new ≡ at_moment now self.old) }
     {
         self.advance(now);
-        self.take_body(from, body, heard);
+        self.take_body(from, body, hashes, heard);
     }
 
     /// Hears the frame with which the bytes begin.
@@ -93,6 +113,7 @@ impl<B: Branch + Drop> Node<B> {
         tags: Tags,
         raw: &Raw<'_>,
         bytes: &[u8],
+        hashes: &mut Hashes,
         heard: &mut Result<Heard, Refusal>,
     )
         requires { BeginsWith (raw_frame raw.now) bytes.now }
@@ -106,13 +127,19 @@ impl<B: Branch + Drop> Node<B> {
         };
         // What is read is large, and taken where it stands.
         match &read_body(raw) {
-            Ok(body) => self.take_body(from, body, heard),
+            Ok(body) => self.take_body(from, body, hashes, heard),
             Err(why) => *heard = Err(Refusal::Frame(*why)),
         }
     }
 
     /// Takes what a member says in a body.
-    fn take_body(&mut self, from: NodeNo, body: &Body<'_>, heard: &mut Result<Heard, Refusal>)
+    fn take_body(
+        &mut self,
+        from: NodeNo,
+        body: &Body<'_>,
+        hashes: &mut Hashes,
+        heard: &mut Result<Heard, Refusal>,
+    )
         requires listed { IsTrue (is_on self.old.list.members from) }
         ensures exact { hear_reply heard.new self.new ≡ speech_reply self.old from (speech_of body.now) }
         ensures refused { result_err heard.new ≡ speech_refusal self.old from (speech_of body.now) }
@@ -120,9 +147,9 @@ impl<B: Branch + Drop> Node<B> {
     {
         match body {
             Body::Validation(validation) => self.take(from, validation, heard),
-            Body::Header(bytes) => self.learn(bytes, heard),
+            Body::Header(bytes) => self.learn(bytes, &hashes.built, heard),
             Body::Proposal(proposal) => self.place(from, proposal, heard),
-            Body::TxSet(ids) => self.hold(from, ids, heard),
+            Body::TxSet(ids) => self.hold(from, ids, &mut hashes.sets, heard),
             Body::Tx(tx) => self.take_tx(*tx, heard),
         }
     }
@@ -150,22 +177,22 @@ impl<B: Branch + Drop> Node<B> {
 
     /// Adds a header to the known ledgers. Validations that waited for it are votes from then on, and nothing is
     /// reported.
-    fn learn(&mut self, bytes: &[u8; 118], heard: &mut Result<Heard, Refusal>)
+    fn learn(&mut self, bytes: &[u8; 118], built: &LastBuilt, heard: &mut Result<Heard, Refusal>)
         ensures exact { (from : ℕ) →
             hear_reply heard.new self.new ≡ speech_reply self.old from (speech.Header (header_in bytes.now)) }
         ensures refused { (from : ℕ) →
             result_err heard.new ≡ speech_refusal self.old from (speech.Header (header_in bytes.now)) }
         ensures unchanged { OnErr heard.new (self.new ≡ self.old) }
     {
-        *heard = self.add_header(&read_header(bytes));
+        *heard = self.add_header(&read_header(bytes), built);
     }
 
-    fn add_header(&mut self, h: &Header) -> Result<Heard, Refusal>
+    fn add_header(&mut self, h: &Header, built: &LastBuilt) -> Result<Heard, Refusal>
         ensures exact { (from : ℕ) → hear_reply result self.new ≡ speech_reply self.old from (speech.Header h.now) }
         ensures refused { (from : ℕ) → result_err result ≡ speech_refusal self.old from (speech.Header h.now) }
         ensures unchanged { OnErr result (self.new ≡ self.old) }
     {
-        let ledger = self.registry.add(h)?;
+        let ledger = add(&mut self.registry, h, built)?;
         self.table.header_known(&self.registry, ledger);
         Ok(Heard {
             taken: Taken::Header(self.registry.id_at(ledger)),

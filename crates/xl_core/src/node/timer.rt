@@ -1,10 +1,11 @@
-ghost use Rattle.std.specs.Prelude.{◌≡◌, ◌<◌, ◌≤◌, ℕ, IsSome, IfSome, OnOk, OnErr, is_some, None, length};
+ghost use Rattle.std.specs.Prelude.{◌≡◌, ◌-◌, ◌^◌, ◌<◌, ◌≤◌, ℕ, IsSome, IfSome, OnOk, OnErr, is_some, None, length};
 ghost use Rattle.xl_base.specs.Moments.{greatest_millis};
 ghost use Rattle.xl_ledger.specs.Headers.{header_id};
 ghost use Rattle.xl_ledger.specs.Registries.{add_refusal, with_header};
 ghost use Rattle.xl_base.specs.Refusals.{unless_refused};
 ghost use Rattle.xl_rounds.specs.Heartbeats.{heartbeat, is_ready};
 ghost use Rattle.xl_core.specs.Building.{knowing_of, alone as alone_of};
+ghost use Rattle.xl_core.specs.Hashing.{header_on};
 ghost use Rattle.xl_core.specs.Keeping.{CountsFault, IsAsked};
 ghost use Rattle.xl_core.specs.Node.{
   at_moment,
@@ -21,12 +22,15 @@ ghost use Rattle.xl_core.specs.declared.timer_part.TimerPart.TheVariants.{Quiet 
 ghost use Rattle.xl_core.specs.TimerParts.{outcome_by, asks_in, validating_reply, concluding_reply, validated_reply, IsBuilt, IsKnown, IsTimerPart};
 
 use super::{Node, usual_mode};
+use crate::hashes::Hashes;
+use crate::last_built::{Basis, LastBuilt, NextLedger, Terms};
 use crate::timer_part::{Built, TimerPart};
 use crate::{OwnValidation, Refusal, TimerAnswer};
 use xl_base::{LedgerId, Millis};
 use xl_closetime::effective;
+use xl_disputes::HashedSets;
 use xl_io::Keeper;
-use xl_ledger::{AddRefusal, Branch, Header, LedgerNo, build_next, id_of};
+use xl_ledger::{AddRefusal, Branch, Header, LedgerNo};
 use xl_rounds::{Heartbeat, HeartbeatKind, Mode, Phase, Said, Seen};
 use xl_wire::Proposal;
 
@@ -56,7 +60,7 @@ impl<B: Branch + Drop> Node<B> {
     ///
     /// What it comes to is large, so it is written where it is to stand, here and in each call below.
     #[inline(never)]
-    pub(crate) fn timer(&mut self, now: Millis, part: &mut TimerPart)
+    pub(crate) fn timer(&mut self, now: Millis, hashes: &mut Hashes, part: &mut TimerPart)
         requires moment { now ≤ greatest_millis }
         ensures exact { outcome_by part.new self.new ≡ timer_outcome (at_moment now self.old) }
         ensures part { IsTimerPart self.new part.new }
@@ -64,7 +68,7 @@ impl<B: Branch + Drop> Node<B> {
         self.advance(now);
         let ledger = self.chosen();
         if ledger == self.round.previous() {
-            self.go_on(part)
+            self.go_on(hashes, part)
         } else {
             self.switch(ledger, part)
         }
@@ -135,7 +139,7 @@ impl<B: Branch + Drop> Node<B> {
     }
 
     /// The round's heartbeat.
-    fn heartbeat(&mut self) -> Heartbeat
+    fn heartbeat(&mut self, hashed: &mut HashedSets) -> Heartbeat
         ensures told { result ≡ (heartbeat self.old.time (seen_of self.old) self.old.round).answer }
         ensures after { self.new ≡ record self.old {
           round = (heartbeat self.old.time (seen_of self.old) self.old.round).round;
@@ -143,34 +147,44 @@ impl<B: Branch + Drop> Node<B> {
         ensures ready { is_some self.new.round.ready ≡ is_ready result.kind }
     {
         let seen = self.seen();
-        self.round.heartbeat(self.time, seen)
+        self.round.heartbeat_with(self.time, seen, hashed)
     }
 
     /// The round's phase goes on.
-    fn go_on(&mut self, part: &mut TimerPart)
+    fn go_on(&mut self, hashes: &mut Hashes, part: &mut TimerPart)
         ensures exact { outcome_by part.new self.new ≡
             heartbeat_outcome self.old (heartbeat self.old.time (seen_of self.old) self.old.round) }
         ensures part { IsTimerPart self.new part.new }
     {
-        let beat = self.heartbeat();
+        let beat = self.heartbeat(&mut hashes.sets);
         let said = &beat.said;
         match beat.kind {
             HeartbeatKind::Nothing => *part = quiet(TimerAnswer::Nothing, said),
             HeartbeatKind::Closed => *part = quiet(TimerAnswer::Closed, said),
             HeartbeatKind::Updated => *part = quiet(TimerAnswer::Updated, said),
-            HeartbeatKind::Ready { moved_on } => self.build(said, moved_on, part),
+            HeartbeatKind::Ready { moved_on } => self.build(
+                said,
+                moved_on,
+                &mut hashes.built,
+                part,
+            ),
         }
     }
 
     /// Builds and accepts the ledger for which the round is ready, if there is room for it.
-    fn build(&mut self, said: &Option<Said>, moved_on: bool, part: &mut TimerPart)
+    fn build(
+        &mut self,
+        said: &Option<Said>,
+        moved_on: bool,
+        built: &mut LastBuilt,
+        part: &mut TimerPart,
+    )
         requires ready { IsSome self.old.round.ready }
         ensures exact { outcome_by part.new self.new ≡
             built_outcome self.old said.now moved_on (knowing_of self.old.ledgers (built_of self.old)) }
         ensures part { IsTimerPart self.new part.new }
     {
-        let header = self.next_header();
-        let id = id_of(&header);
+        let NextLedger { header, id } = self.next_ledger(built);
         match self.know(&header, &id) {
             Some(ledger) => {
                 self.round.accept();
@@ -186,10 +200,20 @@ impl<B: Branch + Drop> Node<B> {
         }
     }
 
-    /// The header that follows the previous ledger by what the round agreed on.
-    fn next_header(&self) -> Header
+    /// The ledger that follows the previous one by what the round agreed on.
+    fn next_ledger(&self, built: &mut LastBuilt) -> NextLedger
         requires ready { IsSome self.now.round.ready }
-        ensures { result ≡ built_of self.now }
+        ensures header { result.header ≡ built_of self.now }
+        ensures id { result.id ≡ header_id result.header }
+    {
+        built.next(&self.basis())
+    }
+
+    /// What the next ledger is built on: the previous ledger, and what the round agreed on.
+    fn basis(&self) -> Basis
+        requires ready { IsSome self.now.round.ready }
+        ensures header { header_on result ≡ built_of self.now }
+        ensures below { result.parent.seq < 2 ^ 32 - 1 }
     {
         let previous = self.round.previous();
         // A ledger's sequence is below the limit of ledgers, and so far below the greatest.
@@ -198,7 +222,15 @@ impl<B: Branch + Drop> Node<B> {
         let parent = self.registry.walk().header(previous);
         let agreed = self.round.agreed();
         let close = effective(agreed.close, agreed.resolution, parent.close);
-        build_next(id, parent, agreed.set, close, agreed.resolution)
+        Basis {
+            parent: *parent,
+            terms: Terms {
+                parent_id: id,
+                set: agreed.set,
+                close,
+                resolution: agreed.resolution,
+            },
+        }
     }
 
     /// Adds the built ledger, unless it is known, and answers its place; None if there is no room for it.

@@ -32,7 +32,7 @@ use crate::setting::{Former, Stance};
 use crate::{Heartbeat, HeartbeatKind, Phase, Said, Seen};
 use xl_base::{Millis, Secs, secs_of};
 use xl_closetime::round_close;
-use xl_disputes::threshold;
+use xl_disputes::{HashedSets, threshold};
 
 /// The percent of time is taken of no less than this.
 const LEAST_FORMER_MS: Millis = 5_000;
@@ -97,9 +97,20 @@ impl Round {
         ensures ready { is_some self.new.ready ≡ is_ready result.kind }
         ensures setting { self.new.setting ≡ self.old.setting }
     {
+        self.heartbeat_with(now, seen, &mut HashedSets::none())
+    }
+
+    /// The same, and our set isn't hashed if it was lately.
+    pub fn heartbeat_with(&mut self, now: Millis, seen: Seen, hashed: &mut HashedSets) -> Heartbeat
+        requires { now ≤ greatest_millis }
+        ensures told { result ≡ (heartbeat_of now seen self.old).answer }
+        ensures after { self.new ≡ (heartbeat_of now seen self.old).round }
+        ensures ready { is_some self.new.ready ≡ is_ready result.kind }
+        ensures setting { self.new.setting ≡ self.old.setting }
+    {
         match self.phase {
-            Phase::Open => self.open_beat(now, seen.validated),
-            Phase::Establish => self.establish_beat(now, seen.finished),
+            Phase::Open => self.open_beat(now, seen.validated, hashed),
+            Phase::Establish => self.establish_beat(now, seen.finished, hashed),
             Phase::Accepted => self.rest(),
         }
     }
@@ -129,7 +140,7 @@ impl Round {
         }
     }
 
-    fn open_beat(&mut self, now: Millis, validated: u32) -> Heartbeat
+    fn open_beat(&mut self, now: Millis, validated: u32, hashed: &mut HashedSets) -> Heartbeat
         requires { now ≤ greatest_millis }
         ensures told { result ≡ (open_beat_of now validated self.old).answer }
         ensures after { self.new ≡ (open_beat_of now validated self.old).round }
@@ -137,7 +148,7 @@ impl Round {
         if !should_close(self.waiting(now, validated)) {
             return self.rest();
         }
-        self.close(now);
+        self.close(now, hashed);
         Heartbeat {
             kind: HeartbeatKind::Closed,
             said: self.said(true),
@@ -158,7 +169,7 @@ impl Round {
     }
 
     /// Closes the open phase: the pending ids are our set.
-    fn close(&mut self, now: Millis)
+    fn close(&mut self, now: Millis, hashed: &mut HashedSets)
         requires { now ≤ greatest_millis }
         ensures { self.new ≡ closed_at now self.old }
     {
@@ -171,10 +182,10 @@ impl Round {
             close: second,
             time: second,
         };
-        self.positions.own(self.pending.as_slice());
+        self.positions.own(self.pending.as_slice(), hashed);
     }
 
-    fn establish_beat(&mut self, now: Millis, finished: u32) -> Heartbeat
+    fn establish_beat(&mut self, now: Millis, finished: u32, hashed: &mut HashedSets) -> Heartbeat
         requires { now ≤ greatest_millis }
         ensures told { result ≡ (establish_beat_of now finished self.old).answer }
         ensures after { self.new ≡ (establish_beat_of now finished self.old).round }
@@ -183,16 +194,22 @@ impl Round {
         if round_ms < LEAST_MS {
             return self.rest();
         }
-        self.establish(round_ms, secs_of(now), finished)
+        self.establish(round_ms, secs_of(now), finished, hashed)
     }
 
     /// The lines of the phase establish, in their order.
-    fn establish(&mut self, round_ms: Millis, second: Secs, finished: u32) -> Heartbeat
+    fn establish(
+        &mut self,
+        round_ms: Millis,
+        second: Secs,
+        finished: u32,
+        hashed: &mut HashedSets,
+    ) -> Heartbeat
         requires { round_ms ≤ greatest_millis }
         ensures told { result ≡ (establish_reply round_ms second finished self.old).answer }
         ensures after { self.new ≡ (establish_reply round_ms second finished self.old).round }
     {
-        let decision = self.decide(round_ms, second);
+        let decision = self.decide(round_ms, second, hashed);
         let is_new = self.is_renewed(second, decision);
         let said = self.renew_if(is_new, second, decision);
         let found = consensus_of(self.tally(round_ms, finished));
@@ -205,7 +222,7 @@ impl Round {
     }
 
     /// Removes old positions, takes the set that wins by the votes, and chooses a close time.
-    fn decide(&mut self, round_ms: Millis, second: Secs) -> Decision
+    fn decide(&mut self, round_ms: Millis, second: Secs, hashed: &mut HashedSets) -> Decision
         requires { round_ms ≤ greatest_millis }
         ensures decision { result ≡ decision_of self.old round_ms second }
         ensures voted { self.new ≡ after_vote self.old round_ms second }
@@ -219,7 +236,7 @@ impl Round {
             needed,
             self.setting.resolution,
         );
-        let changed = self.positions.update(needed, proposing);
+        let changed = self.positions.update(needed, proposing, hashed);
         Decision { changed, choice }
     }
 

@@ -49,7 +49,7 @@ impl Network {
             return Ok(());
         };
         let receiver = &mut self.places[k];
-        receiver.hears_sent(at, &frame, &mut self.room, answer);
+        receiver.hears_sent(at, &frame, &mut self.room, &mut self.hashes, answer);
         let seat = Seat {
             number: to,
             place: k,
@@ -133,7 +133,7 @@ impl Network {
             return Ok(());
         };
         let receiver = &mut self.places[k];
-        receiver.hears_lie(at, from, lie, &mut self.room, answer);
+        receiver.hears_lie(at, from, lie, &mut self.room, &mut self.hashes, answer);
         let seat = Seat {
             number: to,
             place: k,

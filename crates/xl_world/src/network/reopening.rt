@@ -64,7 +64,7 @@ impl Network {
         let disk = place.disk;
         // A save that is cut off is tried as one that fails: what comes of it ends with the node, and its disk is as
         // it was before.
-        place.happens(&deed, Fate::Unwritten, answer);
+        place.happens(&deed, Fate::Unwritten, &mut self.hashes, answer);
         match answer.asked {
             Some(seq) => self.reopen(at, node, disk.restored(disk.left_by(new, seq))),
             None => {

@@ -5,8 +5,8 @@ use Rattle.xl_disputes.specs.Holdings.{with_set}
 use Rattle.xl_disputes.specs.Standings.{known_of, IsLast, IsWeighable}
 use Rattle.xl_disputes.proofs.Keeping.{unsettled, member_weighable, member_known}
 use Rattle.xl_disputes.proofs.Unused.{later_last, last_held}
-use Rattle.xl_disputes.proofs.disputes.Disputes.hold.Goals as goal
-use Rattle.xl_disputes.proofs.disputes.Disputes.hold.Goals.{After-max-self-inside}
+use Rattle.xl_disputes.proofs.disputes.Disputes.hold_with.Goals as goal
+use Rattle.xl_disputes.proofs.disputes.Disputes.hold_with.Goals.{After-max-self-inside}
 
 before : (c : After-max-self-inside) → IsWeighable c.self.inside.shares c.self.inside.positions
 before c = c.self.invariant.able

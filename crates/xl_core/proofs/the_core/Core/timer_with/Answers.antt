@@ -9,7 +9,7 @@ use Rattle.xl_core.specs.TimerParts.{Beaten, IsTimerPart, outcome_by, save_at, b
 use Rattle.xl_core.specs.declared.timer_part.TimerPart.{TimerPart}
 use Rattle.xl_core.proofs.Concluding.{quiet_step, quiet_asks, quiet_fault, built_step, built_asks}
 use Rattle.xl_core.proofs.Stopping.{timer_covers}
-use Rattle.xl_core.proofs.the_core.Core.timer.Goals as goal
+use Rattle.xl_core.proofs.the_core.Core.timer_with.Goals as goal
 
 pub returns-in-Quiet-clause-step : goal.returns-in-Quiet-clause-step
 returns-in-Quiet-clause-step g c =

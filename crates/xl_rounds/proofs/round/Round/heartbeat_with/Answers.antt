@@ -4,7 +4,7 @@ use Rattle.xl_rounds.specs.declared.heartbeat.Heartbeat.{Heartbeat}
 use Rattle.xl_rounds.specs.Rounds.{Round}
 use Rattle.xl_rounds.specs.Heartbeats.{is_ready}
 use Rattle.xl_rounds.proofs.HeartbeatLaws.{establish_told}
-use Rattle.xl_rounds.proofs.round.Round.heartbeat.Goals as goal
+use Rattle.xl_rounds.proofs.round.Round.heartbeat_with.Goals as goal
 
 pub returns-in-Establish-clause-ready : goal.returns-in-Establish-clause-ready
 returns-in-Establish-clause-ready c =

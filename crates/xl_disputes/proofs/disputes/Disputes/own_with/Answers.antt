@@ -5,8 +5,8 @@ use Rattle.xl_disputes.specs.Holdings.{with_set}
 use Rattle.xl_disputes.specs.Standings.{IsLast, IsWeighable}
 use Rattle.xl_disputes.proofs.Keeping.{unsettled, own_weighable, own_known}
 use Rattle.xl_disputes.proofs.Unused.{last_held}
-use Rattle.xl_disputes.proofs.disputes.Disputes.own.Goals as goal
-use Rattle.xl_disputes.proofs.disputes.Disputes.own.Goals.{After-take}
+use Rattle.xl_disputes.proofs.disputes.Disputes.own_with.Goals as goal
+use Rattle.xl_disputes.proofs.disputes.Disputes.own_with.Goals.{After-take}
 
 before : (c : After-take) → IsWeighable c.self.inside.shares c.self.inside.positions
 before c = c.self.invariant.able

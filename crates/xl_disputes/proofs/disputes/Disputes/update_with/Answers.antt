@@ -9,8 +9,8 @@ use Rattle.xl_disputes.proofs.Ordered.{differ}
 use Rattle.xl_disputes.proofs.Picking.{next_is, next_counted}
 use Rattle.xl_disputes.proofs.Keeping.{kept_settled, known_settled, settled, unsettled, own_weighable, own_known}
 use Rattle.xl_disputes.proofs.Unused.{last_held}
-use Rattle.xl_disputes.proofs.disputes.Disputes.update_above.Goals as goal
-use Rattle.xl_disputes.proofs.disputes.Disputes.update_above.Goals.{After-ne-changed, After-replace}
+use Rattle.xl_disputes.proofs.disputes.Disputes.update_with.Goals as goal
+use Rattle.xl_disputes.proofs.disputes.Disputes.update_with.Goals.{After-ne-changed, After-replace}
 
 ready : (c : After-ne-changed) → IsReady c.settle_unless.new.shares c.self.inside.positions c.self.inside.last (vec_capacity c.pick.new.next) true
 ready c =

@@ -11,7 +11,7 @@ use Rattle.xl_core.specs.Issuing.Save.{Kept}
 use Rattle.xl_core.specs.Replies.{Answers, done_answer, save_in, taken_answer}
 use Rattle.xl_core.specs.TimerParts.{save_at}
 use Rattle.xl_core.proofs.Doing.{beat_risen, by_call, by_unasked, issue_risen, of_deed, same_save_told}
-use Rattle.xl_core.proofs.the_core.Core.happen.Goals as goal
+use Rattle.xl_core.proofs.the_core.Core.happen_with.Goals as goal
 
 pub returns-in-Issue : goal.returns-in-Issue
 returns-in-Issue g c =
@@ -27,15 +27,15 @@ returns-in-Frame g c =
 
 pub returns-in-Sealed : goal.returns-in-Sealed
 returns-in-Sealed g c =
-    of_deed g.K.Keeper.held g.K.Keeper.saves g.K.Keeper.faults g.K.Keeper.save_gives c.args.self.now c.frame_as_sealed.new.self c.args.deed.now (deed.Sealed c.in-Sealed.now c.in-Sealed.bytes) c.tell_taken-in-Sealed.new.answer c.args.keeper.now c.args.keeper.now c.in-Sealed.is
-    (by_unasked g.K.Keeper.held g.K.Keeper.saves g.K.Keeper.faults g.K.Keeper.save_gives c.args.self.now c.frame_as_sealed.new.self (Frame c.in-Sealed.now (bytes_as_sealed c.args.self.now.node.keys c.in-Sealed.bytes.now)) c.tell_taken-in-Sealed.new.answer c.args.keeper.now (taken_answer c.frame_as_sealed.result) refl c.tell_taken-in-Sealed.ensures c.frame_as_sealed.ensures.step c.frame_as_sealed.ensures.stop)
+    of_deed g.K.Keeper.held g.K.Keeper.saves g.K.Keeper.faults g.K.Keeper.save_gives c.args.self.now c.frame_as_sealed_with.new.self c.args.deed.now (deed.Sealed c.in-Sealed.now c.in-Sealed.bytes) c.tell_taken-in-Sealed.new.answer c.args.keeper.now c.args.keeper.now c.in-Sealed.is
+    (by_unasked g.K.Keeper.held g.K.Keeper.saves g.K.Keeper.faults g.K.Keeper.save_gives c.args.self.now c.frame_as_sealed_with.new.self (Frame c.in-Sealed.now (bytes_as_sealed c.args.self.now.node.keys c.in-Sealed.bytes.now)) c.tell_taken-in-Sealed.new.answer c.args.keeper.now (taken_answer c.frame_as_sealed_with.result) refl c.tell_taken-in-Sealed.ensures c.frame_as_sealed_with.ensures.step c.frame_as_sealed_with.ensures.stop)
 
 pub returns-in-Timer : goal.returns-in-Timer
 returns-in-Timer g c =
-    let done = c.timer.ensures in
-    of_deed g.K.Keeper.held g.K.Keeper.saves g.K.Keeper.faults g.K.Keeper.save_gives c.args.self.now c.timer.new.self c.args.deed.now (deed.Timer c.in-Timer.now) (told.Beats c.timer.result) c.args.keeper.now c.timer.new.keeper c.in-Timer.is
-    (by_call g.K.Keeper.held g.K.Keeper.saves g.K.Keeper.faults g.K.Keeper.save_gives c.args.self.now c.timer.new.self (Timer c.in-Timer.now) (told.Beats c.timer.result) c.args.keeper.now c.timer.new.keeper (Beats c.timer.result) (save_at c.timer.result) refl refl done.step
-    (record { held = done.held; saves = done.saves; keeper = done.keeper; later = done.later }) (beat_risen c.timer.result (g.K.Keeper.faults c.args.keeper.now) (g.K.Keeper.faults c.timer.new.keeper) done.fault) done.stop)
+    let done = c.timer_with.ensures in
+    of_deed g.K.Keeper.held g.K.Keeper.saves g.K.Keeper.faults g.K.Keeper.save_gives c.args.self.now c.timer_with.new.self c.args.deed.now (deed.Timer c.in-Timer.now) c.tell_beat.new.answer c.args.keeper.now c.timer_with.new.keeper c.in-Timer.is
+    (by_call g.K.Keeper.held g.K.Keeper.saves g.K.Keeper.faults g.K.Keeper.save_gives c.args.self.now c.timer_with.new.self (Timer c.in-Timer.now) c.tell_beat.new.answer c.args.keeper.now c.timer_with.new.keeper (Beats c.timer_with.result) (save_at c.timer_with.result) c.tell_beat.ensures refl done.step
+    (record { held = done.held; saves = done.saves; keeper = done.keeper; later = done.later }) (beat_risen c.timer_with.result (g.K.Keeper.faults c.args.keeper.now) (g.K.Keeper.faults c.timer_with.new.keeper) done.fault) done.stop)
 
 pub returns-in-Submit : goal.returns-in-Submit
 returns-in-Submit g c =
