@@ -12,6 +12,7 @@ ghost use Rattle.xl_negative.specs.Writing.{negative_of};
 ghost use Rattle.xl_pairs.specs.Comparing.{lists_of};
 ghost use Rattle.xl_replay.specs.Replays.{report_of};
 ghost use Rattle.xl_show.specs.Shown.{shown_of};
+ghost use Rattle.xl_tell.specs.Tellings.{telling_of};
 ghost use Rattle.xl_voting.specs.Voting.{flags_of};
 ghost use Rattle.xl_web.specs.Answers.{IsAnswer};
 
@@ -22,6 +23,7 @@ use xl_page::Page;
 use xl_pairs::Lists;
 use xl_replay::Replay;
 use xl_show::Show;
+use xl_tell::Tell;
 use xl_voting::Flags;
 
 /// Tells the host how long the text is, and answers the program's exit status.
@@ -100,4 +102,13 @@ pub extern "C" fn xl_show(alloc: Global, input: &[u8], room: &mut [u8], length: 
     ensures { IsAnswer (shown_of input.now) result length.new room.new }
 {
     answer(xl_page::told::<Show>(alloc, input, room), length)
+}
+
+/// `xl tell`: the text stands at the front of the room, if it has at most the room's length.
+#[tactic(auto, using(crate::proofs::Answers::answers))]
+#[unsafe(no_mangle)]
+pub extern "C" fn xl_tell(alloc: Global, input: &[u8], room: &mut [u8], length: &mut usize) -> u8
+    ensures { IsAnswer (telling_of input.now) result length.new room.new }
+{
+    answer(xl_page::told::<Tell>(alloc, input, room), length)
 }
