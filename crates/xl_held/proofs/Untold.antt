@@ -1,8 +1,7 @@
 -- A node that hears something of a member within a second holds nothing else that it didn't hold before.
 use Rattle.std.proofs.Common.{◌≡◌, ◌≢◌, ℕ, Bool, true, false, List, [], ◌∷◌, ◌++◌, length, refl, sym, ap, ◌∙◌, subst, inl, inr, arith, cond, Option, Some, None}
 use Rattle.std.specs.Prelude.{◌==◌, ◌&&◌, ◌||◌, ◌≤◌, All, find, map, nat_eq}
-use Rattle.std.specs.List.{IsDistinct, flat_map, list_any}
-use Rattle.std.specs.Prelude.{AllByRecursion}
+use Rattle.std.specs.List.{AllByRecursion, IsDistinct, flat_map, list_any}
 use Rattle.std.specs.Cmp.Lexicographic.{pointwise}
 use Rattle.std.specs.Option.{option_and_then}
 use Rattle.std.specs.Str.{bytes_eq}
@@ -141,11 +140,11 @@ none_left f m (k ∷ ks) none off =
     neither true b e = absurd cc
     neither false b e = (refl, e)
 
-    differs : (m k : ℕ) → (m == k) ≡ false → k ≢ m
-    differs m k is_not same = false_true (sym is_not ∙ eq-eqb m k (sym same))
-
     false_true : false ≡ true → ⊥
     false_true e = cc
+
+    differs : (m k : ℕ) → (m == k) ≡ false → k ≢ m
+    differs m k is_not same = false_true (sym is_not ∙ eq-eqb m k (sym same))
 
 -- a number that differs from each isn't on it
 off_rest : (m : ℕ) (ms : List ℕ) → AllByRecursion (λ y. nat_eq m y ≡ false) ms → is_on ms m ≡ false
@@ -168,16 +167,16 @@ one_left f m (k ∷ ks) once none on = elim (cases_eq k m) [
       ∙ one_left f m ks once.1 (λ j there differs. none j (on_more j k ks there) differs) (still m k ks (λ same. other (sym same)) on)
 ]
   where
-    still : (m k : ℕ) (ks : List ℕ) → m ≢ k → is_on (k ∷ ks) m ≡ true → is_on ks m ≡ true
-    still m k ks other on = sym (ap (λ (b : Bool). b || list_any (λ j. m == j) ks) (differs m k other)) ∙ on
-
     differs : (a b : ℕ) → a ≢ b → (a == b) ≡ false
     differs a b other = grind (arith, nat_tests, other)
+
+    still : (m k : ℕ) (ks : List ℕ) → m ≢ k → is_on (k ∷ ks) m ≡ true → is_on ks m ≡ true
+    still m k ks other on = sym (ap (λ (b : Bool). b || list_any (λ j. m == j) ks) (differs m k other)) ∙ on
 
 -- WHAT IS TOLD
 
 module _ (names : List Named) (i m : ℕ) (n later : Node) (leaves : LeavesOthers m n later) (valid : IsValid n.list) (on : is_on n.list.members m ≡ true) where
-  before : List NotedMember
+  abbrev before : List NotedMember
   before = map (member_noted n) n.list.members
 
   settings : settings_changed i (noted n) later ≡ unless (n.time == later.time) (time_line i later.time)
@@ -189,9 +188,13 @@ module _ (names : List Named) (i m : ℕ) (n later : Node) (leaves : LeavesOther
       unless_same (is_same_number n.failed_save later.failed_save) (issuing_line i later.failed_save) (ap (is_same_number n.failed_save) leaves.failed_save ∙ seq_itself n.failed_save) in
       let list : unless (is_same_list n.list later.list) (list_line i later.list) ≡ [] =
       unless_same (is_same_list n.list later.list) (list_line i later.list) (ap (is_same_list n.list) leaves.list ∙ list_itself n.list) in
-      ap (λ (xs : List ℕ). time ++ xs ++ unless (is_same_number n.failed_save later.failed_save) (issuing_line i later.failed_save) ++ unless (is_same_list n.list later.list) (list_line i later.list)) kept
-      ∙ (ap (λ (xs : List ℕ). time ++ xs ++ unless (is_same_list n.list later.list) (list_line i later.list)) failed
-      ∙ (ap (λ (xs : List ℕ). time ++ xs) list ∙ append-nil time))
+      let failing : List ℕ = unless (is_same_number n.failed_save later.failed_save) (issuing_line i later.failed_save) in
+      let listed : List ℕ = unless (is_same_list n.list later.list) (list_line i later.list) in
+      ap (λ (xs : List ℕ). time ++ xs ++ failing ++ listed) kept
+      ∙ (ap (λ (xs : List ℕ). xs ++ failing ++ listed) (append-nil time)
+      ∙ (ap (λ (xs : List ℕ). time ++ xs ++ listed) failed
+      ∙ (ap (λ (xs : List ℕ). xs ++ listed) (append-nil time)
+      ∙ (ap (λ (xs : List ℕ). time ++ xs) list ∙ append-nil time))))
 
   row_none : (k : ℕ) → is_on n.list.members k ≡ true → k ≢ m → row_changed names i before later k ≡ []
   row_none k there other =
