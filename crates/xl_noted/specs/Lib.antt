@@ -1,3 +1,4 @@
 pub mod Noted
 pub mod Seen
 pub mod Same
+pub mod Hearing

@@ -9,8 +9,8 @@ mod noted;
 mod same;
 
 pub use members::{NotedMember, is_position_kept, is_row_kept};
-pub use noted::{Noted, NotedRound};
+pub use noted::{Noted, NotedHearing, NotedRound};
 pub use same::{
     are_same_ids, is_same_last, is_same_list, is_same_mode, is_same_number, is_same_phase,
-    is_same_proposal, is_same_report,
+    is_same_position, is_same_proposal, is_same_report, is_same_row,
 };

@@ -19,7 +19,7 @@ pub struct NotedMember {
 }
 
 impl NotedMember {
-    fn of(node: &Node<Trie>, member: NodeNo) -> NotedMember
+    pub(crate) fn of(node: &Node<Trie>, member: NodeNo) -> NotedMember
         ensures { result ≡ member_noted node.now member }
     {
         NotedMember {

@@ -1,5 +1,5 @@
 -- What a frame says doesn't hang on its tag.
-use Rattle.std.proofs.Common.{◌≡◌, ℕ, List, [], length, refl, sym, ap, ◌∙◌, append-nil}
+use Rattle.std.proofs.Common.{◌≡◌, ℕ, List, [], length, refl, sym, ap, ◌∙◌, append-nil, true}
 use Rattle.std.specs.Prelude.{Result, Ok, Err, nat_lt}
 use Rattle.std.proofs.lemmas.Bool.{cond_both}
 use Rattle.xl_core.specs.Hearing.{bytes_as_sealed, sealed_in}
@@ -17,7 +17,14 @@ use Rattle.xl_wire.specs.Heads.Split.{Whole, Need, Refused}
 use Rattle.xl_wire.specs.Kinds.{span}
 use Rattle.xl_wire.specs.Raws.{IsRaw, RawFrame, raw_bytes}
 use Rattle.xl_wire.proofs.Numbers.{IsBytes}
+use Rattle.xl_wire.proofs.BodyLaws.{body_again}
 use Rattle.xl_wire.proofs.RawLaws.{split_again, split_spelled}
+use Rattle.xl_wire.specs.Bodies.{IsBody}
+use Rattle.xl_wire.specs.Frames.{raw_of}
+use Rattle.xl_core.specs.Sending.{blank_frame, has_spelling, sealed_bytes}
+use Rattle.xl_core.proofs.Spelling.{sealed_raw}
+use Rattle.xl_tags.specs.Sealing.{sealed}
+use Rattle.xl_told.specs.Bodies.{body_text}
 
 body_said : (names : List Named) (f : RawFrame) (tag : List ℕ) (body : Result Body WireRefusal) → said_text names (with_body (with_tag f tag) body) ≡ said_text names (with_body f body)
 body_said names f tag (Ok body) = refl
@@ -45,3 +52,11 @@ module _ (names : List Named) (ring : Ring) (bytes : List ℕ) (fits : IsBytes b
 
   pub said_sealed : said_text names (decoded_of (bytes_as_sealed ring bytes)) ≡ said_text names (decoded_of bytes)
   said_sealed = by_split (split_of bytes) refl
+
+-- a frame that is sealed by a ring says its body
+pub said_body : (names : List Named) (ring : Ring) (from to : ℕ) (body : Body) → has_spelling from to body ≡ true → IsBody body → said_text names (decoded_of (sealed_bytes ring from to body)) ≡ body_text names body
+said_body names ring from to body spelled fits =
+    let f : RawFrame = sealed ring (raw_of (blank_frame from to body)) in
+    let whole : split_of (raw_bytes f) ≡ Whole f = ap split_of (sym (append-nil (raw_bytes f))) ∙ split_again f [] (sealed_raw ring from to body spelled) in
+    ap (λ (s : Split). said_text names (with_bodies s)) whole
+    ∙ ap (λ (r : Result Body WireRefusal). said_text names (with_body f r)) (body_again body fits)

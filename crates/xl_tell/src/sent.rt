@@ -2,13 +2,79 @@
 ghost use Rattle.std.specs.Prelude.{◌≡◌, ◌+◌, ◌++◌, drop, OnOk};
 ghost use Rattle.std.specs.String.{string_bytes};
 ghost use Rattle.xl_tell.specs.Parts.{sent_line, sent_lines};
+ghost use Rattle.xl_told.specs.Bodies.{said_text};
+ghost use Rattle.xl_wire.specs.Frames.{decoded_of};
+ghost use Rattle.xl_world.specs.Sending.{body_said, said_to, sent_as};
 
 use std::alloc::Global;
 use std::fmt::Write;
-use xl_base::OutOfMemory;
+use xl_base::{NodeNo, OutOfMemory};
 use xl_sched::Reader;
-use xl_told::push_said;
-use xl_world::{Sent, SentFrames};
+use xl_told::{push_body, push_said};
+use xl_wire::LONGEST_FRAME;
+use xl_world::{Said, Sent, SentFrames};
+
+/// What a frame says between these two that says this.
+fn push_value(
+    alloc: Global,
+    text: &mut String,
+    reader: &Reader,
+    from: NodeNo,
+    to: NodeNo,
+    said: &Said,
+) -> Result<(), OutOfMemory>
+    ensures { OnOk result (string_bytes text.new ≡ string_bytes text.old
+        ++ said_text reader.now.names (decoded_of (said_to from to (body_said said.now)).bytes)) }
+{
+    push_body(alloc, text, reader, &said.body())
+}
+
+/// What a frame says, of which these bytes are kept.
+// It doesn't hang on the tag, which is long to compute.
+fn push_kept(
+    alloc: Global,
+    text: &mut String,
+    reader: &Reader,
+    frame: &Sent<'_>,
+    kept: &[u8],
+) -> Result<(), OutOfMemory>
+    requires { frame.now ≡ sent_as frame.now.from frame.now.to kept.now }
+    ensures { OnOk result (string_bytes text.new
+        ≡ string_bytes text.old ++ said_text reader.now.names (decoded_of frame.now.bytes)) }
+{
+    push_said(alloc, text, reader, kept)
+}
+
+/// What a frame says that is kept as bytes.
+fn push_bytes(
+    alloc: Global,
+    text: &mut String,
+    reader: &Reader,
+    frame: &Sent<'_>,
+) -> Result<(), OutOfMemory>
+    ensures { OnOk result (string_bytes text.new
+        ≡ string_bytes text.old ++ said_text reader.now.names (decoded_of frame.now.bytes)) }
+{
+    let mut room = [0; LONGEST_FRAME];
+    let length = frame.put(&mut room);
+    push_kept(alloc, text, reader, frame, &room[..length])
+}
+
+/// What a frame says.
+fn push_frame_said(
+    alloc: Global,
+    text: &mut String,
+    reader: &Reader,
+    frame: &Sent<'_>,
+) -> Result<(), OutOfMemory>
+    ensures { OnOk result (string_bytes text.new
+        ≡ string_bytes text.old ++ said_text reader.now.names (decoded_of frame.now.bytes)) }
+{
+    match frame.said() {
+        Some(said) => push_value(alloc, text, reader, frame.from(), frame.to(), said),
+        None => push_bytes(alloc, text, reader, frame),
+    }
+}
 
 /// A frame of this number.
 fn push_frame(
@@ -23,8 +89,7 @@ fn push_frame(
 {
     let (from, to) = (frame.from().get(), frame.to().get());
     write!(text, "sent {number} {from} {to} ")?;
-    let bytes = frame.bytes(alloc)?;
-    push_said(alloc, text, reader, bytes.as_slice())?;
+    push_frame_said(alloc, text, reader, frame)?;
     text.push('\n')?;
     Ok(())
 }

@@ -57,7 +57,8 @@ fn list_of(alloc: Global, ids: &Ids<'_>) -> Result<Vec<TxId>, OutOfMemory>
     Ok(list)
 }
 
-fn push_body(
+/// What a body says.
+pub fn push_body(
     alloc: Global,
     text: &mut String,
     reader: &Reader,

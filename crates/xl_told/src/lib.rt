@@ -10,6 +10,6 @@ mod bodies;
 mod events;
 mod words;
 
-pub use bodies::push_said;
+pub use bodies::{push_body, push_said};
 pub use events::push_event;
 pub use words::{push_ids, push_list, push_proposal, push_validation};

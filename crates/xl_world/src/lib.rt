@@ -55,6 +55,7 @@ pub use lie::put_lie;
 pub use outcome::{Happened, Outcome};
 pub use parts::parts_are_the_whole;
 pub use plan::{InForce, Plan, PlanNode};
+pub use said::Said;
 pub use sent::Sent;
 pub use world::World;
 pub use xl_lists::Report as WorldReport;

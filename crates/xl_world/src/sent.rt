@@ -80,7 +80,7 @@ impl<'a> Sent<'a> {
     }
 
     /// What it says, if that is kept in place of bytes.
-    pub(crate) fn said(&self) -> Option<&'a Said>
+    pub fn said(&self) -> Option<&'a Said>
         ensures { IfSome result (λ said. self.now ≡ said_to self.now.from self.now.to (body_said said.now)) }
     {
         match self.kept {
