@@ -4,21 +4,28 @@ ghost use Rattle.xl_store.specs.Stores.{start_of, IsOf};
 
 use std::alloc::Global;
 use std::test::Fail;
-use xl_base::{NodeNo, TxId};
+use xl_base::NodeNo;
 use xl_core::{Core, CoreEvent, Settings};
-use xl_io::MemKeeper;
+use xl_io::PlainKeeper;
 use xl_lists::List;
 use xl_store::{Entries, Pass, Store};
 use xl_tags::Keys;
 use xl_trie::Trie;
-use xl_wire::LONGEST_FRAME;
 
-pub type Stored = Store<Trie, MemKeeper>;
+pub type Stored = Store<Trie, PlainKeeper>;
 
-/// A core of this number that trusts one member, and has a key for each other number.
-pub fn core_of(alloc: Global, number: u32, trusted: u32) -> Result<Core<Trie>, Fail> {
-    let me = NodeNo::new(number).ok_or("no member")?;
-    let list = List::new(&[trusted], 1)?;
+/// A transaction that node 2 says to node 1, with the tag by the schedule's key of the two.
+pub const FRAME: [u8; 78] = [
+    0x58, 0x4C, 1, 5, 0, 32, 0, 0, 0, 2, 0, 0, 0, 1, 7, 7, 7, 7, 7, 7, 7, 7, 7, 7, 7, 7, 7, 7, 7,
+    7, 7, 7, 7, 7, 7, 7, 7, 7, 7, 7, 7, 7, 7, 7, 7, 7, 0x5A, 0x03, 0x58, 0xE5, 0x84, 0x5E, 0xEC,
+    0xB6, 0x17, 0x9E, 0x2A, 0xF7, 0x53, 0x8B, 0x95, 0xDE, 0x83, 0x8A, 0xC0, 0x31, 0xFD, 0x18, 0x34,
+    0xD4, 0x4C, 0x8A, 0x38, 0x38, 0xDE, 0x3C, 0x39, 0x9F,
+];
+
+/// A core of node 1 that trusts node 2, and has a key for each other number.
+fn core_of(alloc: Global) -> Result<Core<Trie>, Fail> {
+    let me = NodeNo::new(1).ok_or("no member")?;
+    let list = List::new(&[2], 1)?;
     // What every list is, for whose members there are keys.
     let _ = list.quorum();
     let settings = Settings {
@@ -32,11 +39,11 @@ pub fn core_of(alloc: Global, number: u32, trusted: u32) -> Result<Core<Trie>, F
     Ok(Core::open(alloc, settings, 1_000, 0)?)
 }
 
-/// A core of node 1 that trusts one member, and has a key for the other.
-fn core_with(alloc: Global, trusted: u32, member: NodeNo) -> Result<Core<Trie>, Fail>
+/// Such a core, which has a key for the member.
+fn core_with(alloc: Global, member: NodeNo) -> Result<Core<Trie>, Fail>
     ensures peer { IfOk result (λ core. IsSome (key_of core.node.keys member)) }
 {
-    let core = core_of(alloc, 1, trusted)?;
+    let core = core_of(alloc)?;
     if core.node().keys().has(member) {
         Ok(core)
     } else {
@@ -45,55 +52,25 @@ fn core_with(alloc: Global, trusted: u32, member: NodeNo) -> Result<Core<Trie>, 
 }
 
 /// A store of this many turns over a core, and its first pass.
-fn store_of(
-    alloc: Global,
-    core: Core<Trie>,
-    keeper: MemKeeper,
-    turns: u64,
-) -> Result<(Stored, Pass), Fail>
+fn store_of(alloc: Global, core: Core<Trie>, turns: u64) -> Result<(Stored, Pass), Fail>
     requires turns { (0 < turns) × (turns ≤ 2 ^ 62) }
     ensures pass { IfOk result (λ opened. IsOf opened.0 opened.1) }
     ensures start { IfOk result (λ opened. start_of opened.0 ≡ core) }
 {
+    let keeper = PlainKeeper::new(alloc, 0)?;
     match Store::open(alloc, core, keeper, turns) {
         Ok(opened) => Ok(opened),
         Err(_) => Err(Fail::from("no memory")),
     }
 }
 
-/// A store of this many turns over node 1, and its first pass. The member is a peer. The second save fails.
-pub fn stored(
-    alloc: Global,
-    trusted: u32,
-    turns: u64,
-    member: NodeNo,
-) -> Result<(Stored, Pass), Fail>
+/// A store of this many turns over node 1, and its first pass. The member is a peer.
+pub fn stored(alloc: Global, turns: u64, member: NodeNo) -> Result<(Stored, Pass), Fail>
     requires turns { (0 < turns) × (turns ≤ 2 ^ 62) }
     ensures pass { IfOk result (λ opened. IsOf opened.0 opened.1) }
     ensures peer { IfOk result (λ opened. IsSome (key_of (start_of opened.0).node.keys member)) }
 {
-    let keeper = MemKeeper::new(alloc, 0, [2].to_vec(alloc)?, Vec::new(alloc))?;
-    let core = core_with(alloc, trusted, member)?;
-    store_of(alloc, core, keeper, turns)
-}
-
-/// What a core has to say to a member.
-pub fn said(alloc: Global, core: &mut Core<Trie>, to: NodeNo) -> Result<Vec<u8>, Fail> {
-    let mut room = vec![in alloc; 0; LONGEST_FRAME]?;
-    if !core.node().keys().has(to) {
-        return Err(Fail::from("no key"));
-    }
-    let count = core.drain(to, &mut room);
-    room.truncate(count);
-    Ok(room)
-}
-
-/// A frame that node 2 has sealed for node 1, of 78 bytes.
-pub fn frame(alloc: Global) -> Result<Vec<u8>, Fail> {
-    let one = NodeNo::new(1).ok_or("no member")?;
-    let mut core = core_of(alloc, 2, 2)?;
-    let _ = core.submit(1_000, TxId([7; 32]));
-    said(alloc, &mut core, one)
+    store_of(alloc, core_with(alloc, member)?, turns)
 }
 
 /// How many events of a journal are frames, and how many greet.

@@ -2,7 +2,7 @@ ghost use Rattle.std.specs.Prelude.{IfSome, IsSome};
 ghost use Rattle.xl_tags.specs.Rings.{key_of};
 ghost use Rattle.xl_store.specs.Stores.{start_of, IsOf};
 
-use crate::fixtures::{Stored, frame, stored};
+use crate::fixtures::{FRAME, Stored, stored};
 use crate::sessions::counted;
 use std::alloc::Global;
 use std::sync::Wait;
@@ -112,7 +112,7 @@ fn hold_two<W: Threads + Wait + Sync>(
 
 /// A link that has one frame to give.
 fn link(alloc: Global) -> Result<MemLink, Fail> {
-    Ok(MemLink::new(alloc, frame(alloc)?, 78, LinkScript::new(alloc), 0)?)
+    Ok(MemLink::new(alloc, FRAME.to_vec(alloc)?, 78, LinkScript::new(alloc), 0)?)
 }
 
 /// How many frames and greetings two sessions make, each of which ends with its link.
@@ -143,7 +143,7 @@ fn a_session_that_waits_keeps_no_turn(rt: HostRuntime) -> Result<(), Fail> {
     let gate = Turnstile::new();
     let links = (link(alloc)?, link(alloc)?);
     let member = NodeNo::new(2).ok_or("no member")?;
-    let (store, pass) = stored(alloc, 2, 100, member)?;
+    let (store, pass) = stored(alloc, 100, member)?;
     let made = made_by_two(&rt, alloc, store, pass, member, links, &gate);
     assert!(rt; made == Some((2, 2)) && gate.missed.load(Ordering::SeqCst) == 0);
     Ok(())

@@ -1,5 +1,5 @@
-//! Calls of the crates below, from one crate at the top. What no contract says of them is shown here: that they
-//! succeed if memory is ample, that turns come and sleepers wake, and what faults of links and of keepers come to.
+//! Sessions of xl_peers, from one crate at the top. What no contract says of them is shown here: that they succeed if
+//! memory is ample, that a gate keeps no turn, that a second is waited, and what faults of links come to.
 //!
 //! It has tests alone, and no call of its own.
 #![tactic(auto)]
@@ -7,18 +7,6 @@
 #[cfg(test)]
 mod fixtures;
 #[cfg(test)]
-mod floods;
-#[cfg(test)]
 mod gates;
 #[cfg(test)]
-mod heartbeats;
-#[cfg(test)]
-mod relists;
-#[cfg(test)]
-mod rounds;
-#[cfg(test)]
 mod sessions;
-#[cfg(test)]
-mod stores;
-#[cfg(test)]
-mod turns;

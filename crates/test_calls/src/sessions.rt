@@ -2,11 +2,11 @@ ghost use Rattle.std.specs.Prelude.{IsSome};
 ghost use Rattle.xl_tags.specs.Rings.{key_of};
 ghost use Rattle.xl_store.specs.Stores.{start_of, IsOf};
 
-use crate::fixtures::{Stored, frame, frames_and_greetings, stored};
+use crate::fixtures::{FRAME, Stored, frames_and_greetings, stored};
 use std::alloc::Global;
 use std::sync::Wait;
 use std::test::Fail;
-use xl_base::NodeNo;
+use xl_base::{NodeNo, TxId};
 use xl_links::{Clock, LinkScript, MemClock, MemLink, OpenGate, Opening};
 use xl_peers::{End, Host, Served, serve, session};
 use xl_store::Pass;
@@ -24,7 +24,7 @@ pub fn counted(store: Stored, pass: Pass) -> Option<(u64, u64)>
 }
 
 /// A session with a member over a link, through a gate that holds nothing, and how many frames it handed over.
-pub fn hold<W: Wait>(
+fn hold<W: Wait>(
     rt: &W,
     alloc: Global,
     store: Stored,
@@ -50,16 +50,44 @@ pub fn hold<W: Wait>(
 #[test]
 fn what_begins_no_frame_ends_a_session(rt: HostRuntime) -> Result<(), Fail> {
     let alloc = rt.alloc();
-    let mut bytes = frame(alloc)?;
+    let mut bytes = FRAME.to_vec(alloc)?;
     bytes.extend_from_slice(&[0x58, 0x4C, 9])?;
     let mut script = LinkScript::new(alloc);
     script.idle.push(1)?;
     script.idle.push(3)?;
     let mut link = MemLink::new(alloc, bytes, 50, script, 0)?;
     let member = NodeNo::new(2).ok_or("no member")?;
-    let (store, pass) = stored(alloc, 2, 20, member)?;
+    let (store, pass) = stored(alloc, 20, member)?;
     let ended = hold(&rt, alloc, store, pass, member, &mut link);
     assert!(rt; ended == Some((End::Framing(WireRefusal::Version(9)), 1)));
+    Ok(())
+}
+
+/// Hands in this many different transactions.
+fn submit_all<W: Wait>(rt: &W, store: &Stored, pass: &mut Pass, count: u8) -> bool
+    requires pass { IsOf store.now pass.old }
+    ensures pass { IsOf store.now pass.new }
+{
+    for number in 0..count {
+        if store.submit(rt, pass, 1_000, TxId([number; 32])) != Ok(Ok(())) {
+            return false;
+        }
+    }
+    true
+}
+
+/// The link's second write fails: it has taken a front of what the session drained.
+#[test]
+fn a_failing_write_ends_a_session(rt: HostRuntime) -> Result<(), Fail> {
+    let alloc = rt.alloc();
+    let mut script = LinkScript::new(alloc);
+    script.failing_writes.push(2)?;
+    let mut link = MemLink::new(alloc, Vec::new(alloc), 100, script, 0)?;
+    let member = NodeNo::new(2).ok_or("no member")?;
+    let (store, mut pass) = stored(alloc, 20, member)?;
+    let sent = submit_all(&rt, &store, &mut pass, 3);
+    let ended = hold(&rt, alloc, store, pass, member, &mut link);
+    assert!(rt; sent && ended == Some((End::LinkFault, 0)) && link.taken().len() == 100);
     Ok(())
 }
 
@@ -97,7 +125,7 @@ fn serving_goes_on_until_the_store_is_full(rt: HostRuntime) -> Result<(), Fail> 
     script.failing_reads.push(1)?;
     let mut link = MemLink::new(alloc, Vec::new(alloc), 1, script, 5)?;
     let member = NodeNo::new(2).ok_or("no member")?;
-    let (store, pass) = stored(alloc, 2, 12, member)?;
+    let (store, pass) = stored(alloc, 12, member)?;
     let ended = attend(&rt, alloc, store, pass, member, &mut link);
     assert!(rt; ended == Some((Served::StoreFull(12), 5_000, (0, 3))));
     let openings = [

@@ -20,17 +20,26 @@ impl EntryWord {
     pub fn of(token: &[u8]) -> Option<EntryWord>
         ensures { result ≡ entry_word token.now }
     {
-        match token {
-            b"frame" => Some(EntryWord::Frame),
-            b"timer" => Some(EntryWord::Timer),
-            b"submit" => Some(EntryWord::Submit),
-            b"issue" => Some(EntryWord::Issue),
-            b"greet" => Some(EntryWord::Greet),
-            b"drain" => Some(EntryWord::Drain),
-            b"reports" => Some(EntryWord::Reports),
-            b"stop" => Some(EntryWord::Stop),
-            b"stopped" => Some(EntryWord::Stopped),
-            _ => None,
+        if token == b"frame".as_slice() {
+            Some(EntryWord::Frame)
+        } else if token == b"timer".as_slice() {
+            Some(EntryWord::Timer)
+        } else if token == b"submit".as_slice() {
+            Some(EntryWord::Submit)
+        } else if token == b"issue".as_slice() {
+            Some(EntryWord::Issue)
+        } else if token == b"greet".as_slice() {
+            Some(EntryWord::Greet)
+        } else if token == b"drain".as_slice() {
+            Some(EntryWord::Drain)
+        } else if token == b"reports".as_slice() {
+            Some(EntryWord::Reports)
+        } else if token == b"stop".as_slice() {
+            Some(EntryWord::Stop)
+        } else if token == b"stopped".as_slice() {
+            Some(EntryWord::Stopped)
+        } else {
+            None
         }
     }
 

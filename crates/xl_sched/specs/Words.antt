@@ -30,6 +30,19 @@ setting_word token =
     else if bytes_eq token (codes "ledger") then Some setting.Ledger
     else None
 
+-- the word of another event's line
+abbrev pub other_event_word : List ℕ → Option EventWord
+other_event_word token =
+    if bytes_eq token (codes "restart") then Some event.Restart
+    else if bytes_eq token (codes "cut") then Some event.Cut
+    else if bytes_eq token (codes "fail") then Some event.Fail
+    else if bytes_eq token (codes "lie") then Some event.Lie
+    else if bytes_eq token (codes "raw") then Some event.Raw
+    else if bytes_eq token (codes "prefer") then Some event.Prefer
+    else if bytes_eq token (codes "list") then Some event.List
+    else if bytes_eq token (codes "heard") then Some event.Heard
+    else None
+
 -- the word of an event's line
 abbrev pub event_word : List ℕ → Option EventWord
 event_word token =
@@ -41,15 +54,7 @@ event_word token =
     else if bytes_eq token (codes "all") then Some event.All
     else if bytes_eq token (codes "drop") then Some event.Drop
     else if bytes_eq token (codes "greet") then Some event.Greet
-    else if bytes_eq token (codes "restart") then Some event.Restart
-    else if bytes_eq token (codes "cut") then Some event.Cut
-    else if bytes_eq token (codes "fail") then Some event.Fail
-    else if bytes_eq token (codes "lie") then Some event.Lie
-    else if bytes_eq token (codes "raw") then Some event.Raw
-    else if bytes_eq token (codes "prefer") then Some event.Prefer
-    else if bytes_eq token (codes "list") then Some event.List
-    else if bytes_eq token (codes "heard") then Some event.Heard
-    else None
+    else other_event_word token
 
 -- whether a line of this word may stand only before the first event
 abbrev pub is_declaration : SettingWord → Bool

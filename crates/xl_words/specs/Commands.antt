@@ -43,6 +43,18 @@ rounds_in rows =
 abbrev pub gen : ℕ → Command
 gen rounds = Tell (Gen rounds)
 
+-- the command of another name, and of the rows of its arguments
+abbrev pub other_command_named : Text → List Row → Option Command
+other_command_named name rows =
+    if bytes_eq name (codes "audit") then Some (Tell Audit)
+    else if bytes_eq name (codes "blame") then Some (Tell Blame)
+    else if bytes_eq name (codes "flags") then Some (Tell Flags)
+    else if bytes_eq name (codes "negative") then Some (Tell Negative)
+    else if bytes_eq name (codes "tell") then Some (Tell Events)
+    else if bytes_eq name (codes "gen") then option_map gen (rounds_in rows)
+    else None
+
+-- the command of a name
 abbrev pub command_named : Text → List Row → Option Command
 command_named name rows =
     if bytes_eq name (codes "replay") then Some (Tell Replay)
@@ -50,13 +62,7 @@ command_named name rows =
     else if bytes_eq name (codes "show") then Some (Tell Show)
     else if bytes_eq name (codes "lists") then Some (Tell Lists)
     else if bytes_eq name (codes "merge") then Some (Tell Merge)
-    else if bytes_eq name (codes "audit") then Some (Tell Audit)
-    else if bytes_eq name (codes "blame") then Some (Tell Blame)
-    else if bytes_eq name (codes "flags") then Some (Tell Flags)
-    else if bytes_eq name (codes "negative") then Some (Tell Negative)
-    else if bytes_eq name (codes "tell") then Some (Tell Events)
-    else if bytes_eq name (codes "gen") then option_map gen (rounds_in rows)
-    else None
+    else other_command_named name rows
 
 -- the command of what was found
 abbrev pub command_found : Option (Text × List Row) → Option Command

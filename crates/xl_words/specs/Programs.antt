@@ -29,10 +29,13 @@ bare = record (new_app (codes "xl")) {
   };
 }
 
--- the program with its eleven commands
+-- the program with the first five of its eleven commands
+abbrev pub first_commands : App
+first_commands = with_subcommand (with_subcommand (with_subcommand (with_subcommand (with_subcommand bare (plain (codes
+    "replay"))) (plain (codes "node"))) (plain (codes "show"))) (plain (codes "lists"))) (plain (codes "merge"))
+
+-- the program with all of them
 abbrev pub program : App
 program = with_subcommand (with_subcommand (with_subcommand (with_subcommand (with_subcommand (with_subcommand
-    (with_subcommand (with_subcommand (with_subcommand (with_subcommand (with_subcommand bare (plain (codes "replay")))
-    (plain (codes "node"))) (plain (codes "show"))) (plain (codes "lists"))) (plain (codes "merge"))) (plain (codes
-    "audit"))) (plain (codes "blame"))) (plain (codes "flags"))) (plain (codes "negative"))) (plain (codes "tell")))
-    with_rounds
+    first_commands (plain (codes "audit"))) (plain (codes "blame"))) (plain (codes "flags"))) (plain (codes "negative")))
+    (plain (codes "tell"))) with_rounds

@@ -1,7 +1,7 @@
 ghost use Rattle.std.specs.Prelude.{◌≡◌, ◌⊎◌, Ok, Err, Some, IfOk, option_map};
 ghost use Rattle.clap.specs.Words.{rows_of, found_of, subcommand_rows_of};
 ghost use Rattle.xl_words.specs.Commands.{command_of, command_found, command_named, gen, reply_to, words_of};
-ghost use Rattle.xl_words.specs.Commands.{IsExactly};
+ghost use Rattle.xl_words.specs.Commands.{other_command_named, IsExactly};
 
 use crate::program::program;
 use crate::rounds::rounds_of;
@@ -113,6 +113,13 @@ fn named(name: &str, matches: &ArgMatches<'_>) -> Option<Command>
     if name == "merge" {
         return Some(Command::Tell(Telling::Merge));
     }
+    other_named(name, matches)
+}
+
+/// The command of another name.
+fn other_named(name: &str, matches: &ArgMatches<'_>) -> Option<Command>
+    ensures { result ≡ other_command_named name.now (rows_of (found_of matches.now)) }
+{
     if name == "audit" {
         return Some(Command::Tell(Telling::Audit));
     }

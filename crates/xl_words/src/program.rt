@@ -1,7 +1,7 @@
 // The program as `clap` sees it: its commands, and that it has help and a version.
 ghost use Rattle.std.specs.Prelude.{◌≡◌, IfOk, false};
 ghost use Rattle.clap.specs.Words.{app_of, rule_of};
-ghost use Rattle.xl_words.specs.Programs.{bare, program, rounds_rule};
+ghost use Rattle.xl_words.specs.Programs.{bare, first_commands, program, rounds_rule};
 
 use clap::{Arg, ArgAction, Command};
 use std::alloc::{AllocError, Global};
@@ -27,16 +27,23 @@ fn without_commands<'a>(alloc: Global) -> Command<'a>
         .disable_help_subcommand(true)
 }
 
-pub fn program<'a>(alloc: Global) -> Result<Command<'a>, AllocError>
-    ensures { IfOk result (λ command. app_of command ≡ program) }
+/// The program with the first of its commands.
+fn first_commands<'a>(alloc: Global) -> Result<Command<'a>, AllocError>
+    ensures { IfOk result (λ command. app_of command ≡ first_commands) }
 {
-    let rounds = Command::new(alloc, "gen").arg(rounds_argument(alloc))?;
     without_commands(alloc)
         .subcommand(Command::new(alloc, "replay"))?
         .subcommand(Command::new(alloc, "node"))?
         .subcommand(Command::new(alloc, "show"))?
         .subcommand(Command::new(alloc, "lists"))?
-        .subcommand(Command::new(alloc, "merge"))?
+        .subcommand(Command::new(alloc, "merge"))
+}
+
+pub fn program<'a>(alloc: Global) -> Result<Command<'a>, AllocError>
+    ensures { IfOk result (λ command. app_of command ≡ program) }
+{
+    let rounds = Command::new(alloc, "gen").arg(rounds_argument(alloc))?;
+    first_commands(alloc)?
         .subcommand(Command::new(alloc, "audit"))?
         .subcommand(Command::new(alloc, "blame"))?
         .subcommand(Command::new(alloc, "flags"))?

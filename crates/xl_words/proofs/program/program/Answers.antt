@@ -11,15 +11,10 @@ returns c =
     c.in_ok-rounds.ensures.shape c.rounds_argument.ensures.local ∙ ap₂ with_rule c.new.ensures.app c.rounds_argument.ensures.rule in
     let free = c.in_ok-rounds.ensures.globals
     ∙ ap₂ (λ a b. a || b) c.new.ensures.local c.rounds_argument.ensures.local in
-    let one = c.in_ok-subcommand.ensures.shape c.new-2.ensures.local ∙ ap₂ with_subcommand c.without_commands.ensures (ap (λ (a : App). a.top) c.new-2.ensures.app) in
+    let one = c.in_ok-subcommand.ensures.shape c.new-2.ensures.local ∙ ap₂ with_subcommand c.in_ok-first_commands.ensures (ap (λ (a : App). a.top) c.new-2.ensures.app) in
     let two = c.in_ok-subcommand-2.ensures.shape c.new-3.ensures.local ∙ ap₂ with_subcommand one (ap (λ (a : App). a.top) c.new-3.ensures.app) in
     let three = c.in_ok-subcommand-3.ensures.shape c.new-4.ensures.local ∙ ap₂ with_subcommand two (ap (λ (a : App). a.top) c.new-4.ensures.app) in
     let four = c.in_ok-subcommand-4.ensures.shape c.new-5.ensures.local ∙ ap₂ with_subcommand three (ap (λ (a : App). a.top) c.new-5.ensures.app) in
     let five = c.in_ok-subcommand-5.ensures.shape c.new-6.ensures.local ∙ ap₂ with_subcommand four (ap (λ (a : App). a.top) c.new-6.ensures.app) in
-    let six = c.in_ok-subcommand-6.ensures.shape c.new-7.ensures.local ∙ ap₂ with_subcommand five (ap (λ (a : App). a.top) c.new-7.ensures.app) in
-    let seven = c.in_ok-subcommand-7.ensures.shape c.new-8.ensures.local ∙ ap₂ with_subcommand six (ap (λ (a : App). a.top) c.new-8.ensures.app) in
-    let eight = c.in_ok-subcommand-8.ensures.shape c.new-9.ensures.local ∙ ap₂ with_subcommand seven (ap (λ (a : App). a.top) c.new-9.ensures.app) in
-    let nine = c.in_ok-subcommand-9.ensures.shape c.new-10.ensures.local ∙ ap₂ with_subcommand eight (ap (λ (a : App). a.top) c.new-10.ensures.app) in
-    let ten = c.in_ok-subcommand-10.ensures.shape c.new-11.ensures.local ∙ ap₂ with_subcommand nine (ap (λ (a : App). a.top) c.new-11.ensures.app) in
-    IfOk-weaker c.subcommand-11.result _ _
-    (λ command adds. adds.shape free ∙ ap₂ with_subcommand ten (ap (λ (a : App). a.top) rounds)) c.subcommand-11.ensures
+    IfOk-weaker c.subcommand-6.result _ _
+    (λ command adds. adds.shape free ∙ ap₂ with_subcommand five (ap (λ (a : App). a.top) rounds)) c.subcommand-6.ensures
