@@ -15,6 +15,8 @@ mod heartbeats;
 #[cfg(test)]
 mod relists;
 #[cfg(test)]
+mod rolls;
+#[cfg(test)]
 mod rounds;
 #[cfg(test)]
 mod sessions;

@@ -11,6 +11,7 @@ use frame::sealed_frame;
 use link::CountedLink;
 use std::alloc::{AllocError, Global};
 use std::io;
+use std::fs::Files;
 use std::sync::Wait;
 use std::sync::atomic::AtomicU64;
 use std::thread::Threads;
@@ -62,7 +63,7 @@ fn spare_of<'a>(
 }
 
 /// Runs node 1 over these links.
-fn run<R: Threads + Wait + Sync>(
+fn run<R: Threads + Wait + Files + Sync>(
     threads: &R,
     alloc: Global,
     links: Vec<Spare<CountedLink<'_>>>,

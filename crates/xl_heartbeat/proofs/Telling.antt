@@ -8,7 +8,12 @@ use Rattle.xl_core.specs.CoreLives.{core_after}
 use Rattle.xl_store.specs.declared.status.NodeStatus.{NodeStatus}
 use Rattle.xl_store.specs.Entries.{life_of}
 use Rattle.xl_store.specs.Statuses.{status_of}
-use Rattle.xl_heartbeat.specs.Bulletins.{is_due, Tells, Told, ToldIf}
+use Rattle.xl_heartbeat.specs.Bulletins.{is_due, NotesIf, Tells, Told, ToldIf}
+
+-- nothing is kept
+pub notes_same : {D : Type 0} (bulletin : Option (Bulletin D)) → NotesIf bulletin bulletin
+notes_same None = refl
+notes_same (Some bulletin) = record { board = refl; profile = refl; hearing = refl; due = refl }
 
 module _ {D : Type 0} (gives : D → List ℕ → Bool → D → Type 0) (start : Core) where
   pub untold : (first : Option (Bulletin D)) (seen : List Entry) → ToldIf gives start first seen first
@@ -21,6 +26,14 @@ module _ {D : Type 0} (gives : D → List ℕ → Bool → D → Type 0) (start 
   still_told None last seen longer p t = t
   still_told (Some first) None seen longer p t = absurd t
   still_told (Some first) (Some last) seen longer p t = Told.goes_on seen longer last t p
+
+  -- what became of a look is kept
+  pub noted : (first mid last : Option (Bulletin D)) (seen : List Entry) → NotesIf mid last
+      → ToldIf gives start first seen mid → ToldIf gives start first seen last
+  noted None mid last seen n t = subst (λ o. NotesIf o last) t n
+  noted (Some first) None last seen n t = absurd t
+  noted (Some first) (Some mid) None seen n t = absurd n
+  noted (Some first) (Some mid) (Some last) seen n t = Told.notes seen mid last t n
 
   -- a text was due, and is that of the core behind all that was seen
   pub told_now : (first : Bulletin D) (old new : List Entry) (now : ℕ) (mid last : Bulletin D) (status : NodeStatus)

@@ -17,6 +17,19 @@ use Rattle.xl_heartbeat.specs.declared.bulletin.Bulletin.{Bulletin}
 abbrev pub is_due : ℕ → ℕ → Bool
 is_due due now = nat_le due now || nat_lt (now + 10000) due
 
+-- what became of a look at rolls is kept, and nothing else changes
+pub record Notes {D : Type 0} (old new : Bulletin D) : Type 0 where
+  pub board : new.board ≡ old.board
+  pub profile : new.profile ≡ old.profile
+  pub hearing : new.hearing ≡ old.hearing
+  pub due : new.due ≡ old.due
+
+-- the same, if there is a bulletin
+abbrev pub NotesIf : {D : Type 0} → Option (Bulletin D) → Option (Bulletin D) → Type 0
+NotesIf None new = new ≡ None
+NotesIf (Some old) None = ⊥
+NotesIf (Some old) (Some new) = Notes old new
+
 module _ {D : Type 0} (gives : D → List ℕ → Bool → D → Type 0) where
   -- this text and no other was handed to the board, or none was
   abbrev pub Shows : List ℕ → D → D → Type 0
@@ -27,20 +40,23 @@ module _ {D : Type 0} (gives : D → List ℕ → Bool → D → Type 0) where
     pub profile : new.profile ≡ old.profile
     pub hearing : new.hearing ≡ after_status old.hearing status
     pub due : new.due ≡ now + 10000
-    pub board : Shows (status_text old.profile status new.hearing None) old.board new.board
+    pub look : new.look ≡ old.look
+    pub board : Shows (status_text old.profile status new.hearing old.look None) old.board new.board
 
   -- the same of the end, behind which no text is due
   pub record TellsEnd (status : NodeStatus) (ended : Status) (old new : Bulletin D) : Type 0 where
     pub profile : new.profile ≡ old.profile
     pub hearing : new.hearing ≡ after_status old.hearing status
     pub due : new.due ≡ old.due
-    pub board : Shows (status_text old.profile status new.hearing (Some ended)) old.board new.board
+    pub look : new.look ≡ old.look
+    pub board : Shows (status_text old.profile status new.hearing old.look (Some ended)) old.board new.board
 
   -- the same if no core was opened
   pub record TellsUnopened (ended : Status) (old new : Bulletin D) : Type 0 where
     pub profile : new.profile ≡ old.profile
     pub hearing : new.hearing ≡ old.hearing
     pub due : new.due ≡ old.due
+    pub look : new.look ≡ old.look
     pub board : Shows (unopened_text old.profile old.due ended) old.board new.board
 
   -- What was told of a history, as far as that has come: at some of its places a text was due, and was that of how the
@@ -49,6 +65,8 @@ module _ {D : Type 0} (gives : D → List ℕ → Bool → D → Type 0) where
     nothing : (seen : List Entry) → Told start first seen first
     goes_on : (seen longer : List Entry) (last : Bulletin D) → Told start first seen last → IsPrefix seen longer
         → Told start first longer last
+    notes : (seen : List Entry) (mid last : Bulletin D) → Told start first seen mid → Notes mid last
+        → Told start first seen last
     tells : (seen : List Entry) (now : ℕ) (mid last : Bulletin D) → Told start first seen mid
         → is_due mid.due now ≡ true → Tells (status_of (core_after start (life_of seen))) now mid last
         → Told start first seen last
