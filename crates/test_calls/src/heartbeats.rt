@@ -105,7 +105,11 @@ fn two_publishers() -> Result<Publishing, Fail> {
 }
 
 /// The entries of a run with these publishers, and how many members are on the list of its core then.
-fn followed<W: Wait + Files>(rt: &W, alloc: Global, sink: &mut MemSink) -> Result<(Entries, u32), Fail> {
+fn followed<W: Wait + Files>(
+    rt: &W,
+    alloc: Global,
+    sink: &mut MemSink,
+) -> Result<(Entries, u32), Fail> {
     let (store, mut pass) = stored(alloc, 1, 100, NodeNo::new(2).ok_or("no member")?)?;
     let clock = MemClock::new(1_000);
     let pulse = pulse_of(5_000, Some(two_publishers()?))?;

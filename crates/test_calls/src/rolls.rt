@@ -2,9 +2,7 @@ ghost use Rattle.std.specs.Prelude.{◌≤◌, length};
 
 use std::alloc::Global;
 use std::test::Fail;
-use xl_publish::{
-    LineRefusal, MOST_TEXT, Publishers, RefusedLine, Roll, RollMembers, write_roll,
-};
+use xl_publish::{LineRefusal, MOST_TEXT, Publishers, RefusedLine, Roll, RollMembers, write_roll};
 
 /// The digits of a roll of publisher 1 that names these members until second 1,000.
 fn digits(alloc: Global, seq: u32, members: &[u32]) -> Result<String, Fail>

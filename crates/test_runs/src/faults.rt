@@ -2,8 +2,8 @@
 use crate::comparison::{Comparison, compare_front};
 use crate::run::{Run, read_run};
 use std::alloc::{AllocError, Global};
-use std::io;
 use std::fs::Files;
+use std::io;
 use std::sync::Wait;
 use std::thread::Threads;
 use xl_base::Status;

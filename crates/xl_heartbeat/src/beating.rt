@@ -54,7 +54,14 @@ struct Progress<D> {
 ///
 /// On the bulletin, if there is one, it tells each ten seconds how the node is. That takes no turn more: the core is
 /// looked at in the turn in which reports are taken.
-pub fn beat<W: Wait + Files, B: Branch + Drop, K: Keeper + Drop, O: Sink, C: Clock, D: Board + Drop>(
+pub fn beat<
+    W: Wait + Files,
+    B: Branch + Drop,
+    K: Keeper + Drop,
+    O: Sink,
+    C: Clock,
+    D: Board + Drop,
+>(
     rt: &W,
     store: &Store<B, K>,
     clock: &C,
@@ -93,7 +100,14 @@ pub fn beat<W: Wait + Files, B: Branch + Drop, K: Keeper + Drop, O: Sink, C: Clo
 
 /// One beat, and why it was the last, if it was. The text of rolls is looked at before the publishers' list is set, and
 /// that is set before the timer, which counts by it.
-fn beat_once<W: Wait + Files, B: Branch + Drop, K: Keeper + Drop, O: Sink, C: Clock, D: Board + Drop>(
+fn beat_once<
+    W: Wait + Files,
+    B: Branch + Drop,
+    K: Keeper + Drop,
+    O: Sink,
+    C: Clock,
+    D: Board + Drop,
+>(
     rt: &W,
     store: &Store<B, K>,
     clock: &C,

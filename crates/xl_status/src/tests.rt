@@ -59,7 +59,15 @@ fn tells_who_is_silent(rt: HostRuntime) -> Result<(), Fail> {
     let status = status(9000)?;
     hearing.note(&status);
     let mut text = String::new(rt.alloc());
-    push_status(rt.alloc(), &mut text, &profile()?, &status, &hearing, None, None)?;
+    push_status(
+        rt.alloc(),
+        &mut text,
+        &profile()?,
+        &status,
+        &hearing,
+        None,
+        None,
+    )?;
     let id = "0a0a0a0a0a0a0a0a0a0a0a0a0a0a0a0a0a0a0a0a0a0a0a0a0a0a0a0a0a0a0a0a";
     let told = format!(in rt.alloc();
         "{FRONT}issues yes\nreport 6 {id}\nprefers none\nlost 0\nquorum 2\nheard 1\nheard 2\nsilent 3 5000\nruns\n"
@@ -109,10 +117,21 @@ fn tells_which_line_of_the_rolls_was_refused(rt: HostRuntime) -> Result<(), Fail
     for (look, line) in [
         (Look::Taken, "rolls taken\nruns\n"),
         (Look::Unread, "rolls unread\nruns\n"),
-        (Look::Refused { line: 3, code: 55 }, "rolls refused 3 55\nruns\n"),
+        (
+            Look::Refused { line: 3, code: 55 },
+            "rolls refused 3 55\nruns\n",
+        ),
     ] {
         let mut text = String::new(rt.alloc());
-        push_status(rt.alloc(), &mut text, &profile()?, &status, &hearing, Some(look), None)?;
+        push_status(
+            rt.alloc(),
+            &mut text,
+            &profile()?,
+            &status,
+            &hearing,
+            Some(look),
+            None,
+        )?;
         assert!(rt; text.as_str().ends_with(line));
     }
     Ok(())
