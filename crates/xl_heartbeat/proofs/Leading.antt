@@ -3,40 +3,44 @@ use Rattle.std.proofs.Common.{◌≡◌, ◌∙◌, ◌+◌, ◌<◌, ℕ, List,
 use Rattle.std.proofs.lemmas.Bool.{cases_Bool}
 use Rattle.std.proofs.lemmas.List.{length-take-le}
 use Rattle.xl_publish.specs.Registers.{Register}
-use Rattle.xl_publish.specs.Texts.{after_text}
+use Rattle.xl_publish.specs.Texts.{after_text, first_refused, lines_of}
 use Rattle.xl_publish.specs.declared.publishing.Publishing.{Publishing}
+use Rattle.xl_status.specs.declared.look.Look.{Look}
 use Rattle.xl_heartbeat.specs.declared.rolls_text.RollsText.{RollsText}
 use Rattle.xl_heartbeat.specs.declared.standing.Standing.{Standing}
-use Rattle.xl_heartbeat.specs.Looks.{IsLed, Looks, LooksAt, LooksIfDue, Reads, is_look_due}
+use Rattle.xl_heartbeat.specs.Looks.{IsLed, Looks, LooksAt, LooksIfDue, Reads, is_look_due, look_of}
 
 pub led_on : (rolls : Option RollsText) (first : Option Publishing) (now : ℕ) (before looked : Standing)
-    → LooksAt rolls now before looked → IsLed rolls first before.publishing → IsLed rolls first looked.publishing
-led_on None first now before looked same led = subst (λ (s : Standing). IsLed None first s.publishing) (sym same) led
-led_on (Some rolls) first now before looked l led = elim (cases_Bool (is_look_due before.due now)) [
-  | inl due ↦ IsLed.looks before.publishing looked.publishing led (l.looks due).0
-  | inr undue ↦ subst (λ (s : Standing). IsLed (Some rolls) first s.publishing) (sym (l.waits undue)) led
+    (look : Option Look) → LooksAt rolls now before look looked → IsLed rolls first before.publishing
+    → IsLed rolls first looked.publishing
+led_on None first now before looked look same led =
+    subst (λ (s : Standing). IsLed None first s.publishing) (sym same.1) led
+led_on (Some rolls) first now before looked look l led = elim (cases_Bool (is_look_due before.due now)) [
+  | inl due ↦ IsLed.looks before.publishing looked.publishing look led (l.looks due).0
+  | inr undue ↦ subst (λ (s : Standing). IsLed (Some rolls) first s.publishing) (sym (l.waits undue).1) led
 ]
 
 -- a look that isn't due is none
 pub not_due : (rolls : RollsText) (now : ℕ) (standing : Standing) → is_look_due standing.due now ≡ false
-    → LooksIfDue rolls now standing standing
+    → LooksIfDue rolls now standing None standing
 not_due rolls now standing undue = record {
   set = refl;
   looks = λ due. absurd (true≢false (sym due ∙ undue));
-  waits = λ _. refl;
+  waits = λ _. (refl, refl);
 }
 
-pub looked : (rolls : RollsText) (now : ℕ) (old new : Standing) → is_look_due old.due now ≡ true
-    → new.set ≡ old.set → Looks rolls old.publishing new.publishing → new.due ≡ now + 60000
-    → LooksIfDue rolls now old new
-looked rolls now old new due set looks later = record {
+pub looked : (rolls : RollsText) (now : ℕ) (old new : Standing) (look : Option Look) → is_look_due old.due now ≡ true
+    → new.set ≡ old.set → Looks rolls old.publishing look new.publishing → new.due ≡ now + 60000
+    → LooksIfDue rolls now old look new
+looked rolls now old new look due set looks later = record {
   set = set;
   looks = λ _. (looks, later);
   waits = λ undue. absurd (true≢false (sym due ∙ undue));
 }
 
 -- what was read is no longer than the room
-pub read_so : (members : List ℕ) (old new : Register) (count : ℕ) (room : List ℕ) → length room ≡ 32769
-    → count < length room → new ≡ after_text members old (take count room) → Reads members old new
-read_so members old new count room long few is =
-    inr (take count room, omega (arith, long, few, length-take-le count room (omega (arith, few))), is)
+pub read_so : (members : List ℕ) (old new : Register) (look : Look) (count : ℕ) (room : List ℕ) → length room ≡ 32769
+    → count < length room → look ≡ look_of (first_refused members old.keys 1 (lines_of (take count room)))
+    → new ≡ after_text members old (take count room) → Reads members old look new
+read_so members old new look count room long few told is =
+    inr (take count room, omega (arith, long, few, length-take-le count room (omega (arith, few))), told, is)

@@ -22,6 +22,7 @@ use Rattle.xl_store.specs.declared.store.StoreEnd.TheVariants as refused
 use Rattle.xl_store.specs.Calls.{Call, Made}
 use Rattle.xl_store.specs.Stores.{start_of, turns_of, IsWhy, Called, HandedOut, Refused}
 use Rattle.xl_store.proofs.Making.{made_none, made_both}
+use Rattle.xl_status.specs.declared.look.Look.{Look}
 use Rattle.xl_heartbeat.specs.declared.pulse.Pulse.{Pulse}
 use Rattle.xl_heartbeat.specs.declared.standing.Standing.{Standing}
 use Rattle.xl_heartbeat.specs.declared.ends.Ending.{Ending}
@@ -81,15 +82,16 @@ module _ (start : Core) (turns : ℕ) (may : ℕ → Bool) (pulse : Pulse) (k0 :
 
   -- the text was looked at if that was due, and the publishers' list was asked for, if it is another than the one last
   -- set
-  pub relisted : (k new : Knowledge Entry) (o : Output) (now : ℕ) (before looked after : Standing) → may now ≡ true
-      → LooksAt pulse.rolls now before looked
+  pub relisted : (k new : Knowledge Entry) (o : Output) (now : ℕ) (before looked after : Standing) (look : Option Look)
+      → may now ≡ true
+      → LooksAt pulse.rolls now before look looked
       → Relisted start (made_at looked.publishing now) now looked k after new
       → Beating start may pulse k0 o0 (Phase.Beats before) k o
       → Beating start may pulse k0 o0 (Phase.Times now after) new o
-  relisted k new o now before looked after given looks r b = record {
+  relisted k new o now before looked after look given looks r b = record {
     calls = b.calls ++ r.calls;
     run = subst (λ (s : Standing). IsBeating may pulse (b.calls ++ r.calls) (Phase.Times now s)) (sym r.is)
-        (IsBeating.relists b.calls r.calls now before looked r.next b.run given looks r.asked);
+        (IsBeating.relists b.calls r.calls now before looked look r.next b.run given looks r.asked);
     made = made_both start k0 k new b.calls r.calls b.made r.made;
     drawn = let p = b.drawn in let q = r.drawn in omega arith;
     adds = subst (λ t. Adds t o0 o)

@@ -1,6 +1,7 @@
 -- The heartbeat of a running node, and how reports are taken. Source: this project's own.
 use Rattle.std.specs.Prelude.{◌≡◌, ℕ, ◌+◌, ◌==◌, ◌&&◌, ◌≤◌, nat_le, Bool, true, not, List, [], ◌∷◌, ◌++◌, if◌then◌else◌}
 use Rattle.std.specs.List.{flat_map}
+use Rattle.std.specs.declared.option.Option.{Option}
 use Rattle.xl_lists.specs.Lists.{TrustedList}
 use Rattle.xl_turns.specs.declared.view.Knowledge.{Knowledge}
 use Rattle.xl_core.specs.declared.timer_answer.TimerAnswer.{TimerAnswer}
@@ -10,6 +11,7 @@ use Rattle.xl_core.specs.Answers as answer
 use Rattle.xl_core.specs.Core.{Core}
 use Rattle.xl_store.specs.declared.entry.Entry.{Entry}
 use Rattle.xl_store.specs.Calls.{Call, Made}
+use Rattle.xl_status.specs.declared.look.Look.{Look}
 use Rattle.xl_heartbeat.specs.declared.timing.Timing.{Timing}
 use Rattle.xl_heartbeat.specs.declared.pulse.Pulse.{Pulse}
 use Rattle.xl_heartbeat.specs.declared.standing.Standing.{Standing}
@@ -65,10 +67,10 @@ IsDue Over = ⊥
 -- then takes reports. The first beat at whose moment the time is over is the last
 pub data IsBeating (may_give : ℕ → Bool) (pulse : Pulse) : List Call → Phase → Type 0 where
   begins : IsBeating may_give pulse [] (Beats (standing_of pulse))
-  relists : (calls asked : List Call) (now : ℕ) (before looked : Standing) (next : TrustedList)
+  relists : (calls asked : List Call) (now : ℕ) (before looked : Standing) (look : Option Look) (next : TrustedList)
       → IsBeating may_give pulse calls (Beats before)
       → may_give now ≡ true
-      → LooksAt pulse.rolls now before looked
+      → LooksAt pulse.rolls now before look looked
       → Relists (made_at looked.publishing now) now looked.set asked next
       → IsBeating may_give pulse (calls ++ asked) (Times now (with_set looked next))
   beats : (calls : List Call) (now : ℕ) (standing : Standing) (beat : TimerAnswer)

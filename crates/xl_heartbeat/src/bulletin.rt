@@ -82,7 +82,7 @@ impl<D: Board> Bulletin<D> {
 
 /// Keeps what became of a look, if there was one, for the texts that follow.
 pub(crate) fn note_look<D>(bulletin: &mut Option<Bulletin<D>>, look: Option<Look>)
-    ensures { NotesIf bulletin.old bulletin.new }
+    ensures { NotesIf look bulletin.old bulletin.new }
 {
     match look {
         Some(look) => note(bulletin, look),
@@ -91,7 +91,7 @@ pub(crate) fn note_look<D>(bulletin: &mut Option<Bulletin<D>>, look: Option<Look
 }
 
 fn note<D>(bulletin: &mut Option<Bulletin<D>>, look: Look)
-    ensures { NotesIf bulletin.old bulletin.new }
+    ensures { NotesIf (Some look) bulletin.old bulletin.new }
 {
     match bulletin {
         Some(bulletin) => bulletin.look = Some(look),

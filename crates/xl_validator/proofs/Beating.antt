@@ -144,7 +144,7 @@ module _ (may_give : ℕ → Bool) (pulse : Pulse) where
       → phase ≡ beats.Takes now set
       → (earlier : List Call) × (beat : TimerAnswer) × (cs ≡ earlier ++ timer now beat ∷ [])
   timed cs phase now set IsBeating.begins e = absurd cc
-  timed cs phase now set (IsBeating.relists earlier asked n before looked next run may looks relists) e = absurd cc
+  timed cs phase now set (IsBeating.relists earlier asked n before looked look next run may looks relists) e = absurd cc
   timed cs phase now set (IsBeating.beats earlier n before beat run) e =
       let same : n ≡ now = cc in (earlier, beat, ap (λ (m : ℕ). earlier ++ timer m beat ∷ []) same)
   timed cs phase now set (IsBeating.takes earlier n before handed run) e =
@@ -165,7 +165,7 @@ module _ (may_give : ℕ → Bool) (pulse : Pulse) where
 
   pub over_at : (cs : List Call) (phase : beats.Phase) → IsBeating may_give pulse cs phase → phase ≡ beats.Over → IsOverAt cs
   over_at cs phase IsBeating.begins e = absurd cc
-  over_at cs phase (IsBeating.relists earlier asked n before looked next run may looks relists) e = absurd cc
+  over_at cs phase (IsBeating.relists earlier asked n before looked look next run may looks relists) e = absurd cc
   over_at cs phase (IsBeating.beats earlier n before beat run) e = absurd cc
   over_at cs phase (IsBeating.takes earlier n before handed run) e =
       let t = timed earlier (beats.Takes n before) n before run refl in
@@ -226,7 +226,7 @@ module _ (may_give : ℕ → Bool) (pulse : Pulse) where
 
   pub far : (cs : List Call) (phase : beats.Phase) → IsBeating may_give pulse cs phase → Far cs phase
   far cs phase IsBeating.begins = record { whole = []; cut = []; each = tt; is = refl; at = refl; led = IsLed.begins }
-  far cs phase (IsBeating.relists earlier asked n before looked next run may looks relists) =
+  far cs phase (IsBeating.relists earlier asked n before looked look next run may looks relists) =
       let f = far earlier (beats.Beats before) run in
       record {
         whole = f.whole;
@@ -235,7 +235,7 @@ module _ (may_give : ℕ → Bool) (pulse : Pulse) where
         is = ap (λ (l : List Call). l ++ asked)
             (f.is ∙ ap (λ (l : List Call). all_of f.whole ++ l) f.at ∙ append-nil (all_of f.whole));
         at = (looked.set, relists);
-        led = led_on pulse.rolls pulse.publishing n before looked looks f.led;
+        led = led_on pulse.rolls pulse.publishing n before looked look looks f.led;
       }
   far cs phase (IsBeating.beats earlier n before beat run) =
       let f = far earlier (beats.Times n before) run in

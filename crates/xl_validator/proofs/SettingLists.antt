@@ -28,6 +28,7 @@ use Rattle.xl_store.specs.Calls.{Call, calls_of}
 use Rattle.xl_store.specs.Entries.{Leads, reply_of, save_of}
 use Rattle.xl_store.proofs.Peers.{peers_stay}
 use Rattle.xl_heartbeat.specs.declared.rolls_text.RollsText.{RollsText}
+use Rattle.xl_status.specs.declared.look.Look.{Look}
 use Rattle.xl_heartbeat.specs.Looks.{IsLed, IsLook, Looks, Reads}
 use Rattle.xl_heartbeat.specs.Relisting.{made_at, relist}
 use Rattle.xl_settings.specs.declared.peers.Peer.{Peer}
@@ -116,39 +117,42 @@ module _ (me : ℕ) (settings : List PeerSetting) where
   may_be m first (inl was) = inl was
   may_be m first (inr on) = inr (on_filtered (λ k. k == me || is_peer settings k) all_numbers m on)
 
-  read_met : (old new : Register) → Reads (nameable me settings) old new
+  read_met : (old new : Register) (look : Look) → Reads (nameable me settings) old look new
       → are_peers me (named_by old) settings ≡ true → are_peers me (named_by new) settings ≡ true
-  read_met old new (inl same) met = subst (λ (r : Register). are_peers me (named_by r) settings ≡ true) (sym same) met
-  read_met old new (inr text) met =
-      subst (λ (r : Register). are_peers me (named_by r) settings ≡ true) (sym text.2)
+  read_met old new look (inl unread) met =
+      subst (λ (r : Register). are_peers me (named_by r) settings ≡ true) (sym unread.1) met
+  read_met old new look (inr text) met =
+      subst (λ (r : Register). are_peers me (named_by r) settings ≡ true) (sym text.3)
       (met_later me settings old.kept (after_text (nameable me settings) old text.0).kept
       (λ m named. may_be m old.kept (text_names (nameable me settings) m old text.0 named)) met)
 
-  met_after : (path : List ℕ) (old new : Publishing)
-      → Looks (rolls_at me settings path) (Some old) (Some new) → AreMet old → AreMet new
-  met_after path old new look met = record {
-    named = read_met old.publishers new.publishers look.0 met.named;
-    threshold = subst (λ (n : ℕ). 1 ≤ n) (sym look.1) met.threshold;
+  met_after : (path : List ℕ) (old new : Publishing) (look : Look)
+      → Looks (rolls_at me settings path) (Some old) (Some look) (Some new) → AreMet old → AreMet new
+  met_after path old new look is met = record {
+    named = read_met old.publishers new.publishers look is.0 met.named;
+    threshold = subst (λ (n : ℕ). 1 ≤ n) (sym is.1) met.threshold;
   }
 
-  met_on : (path : List ℕ) (old new : Option Publishing)
-      → Looks (rolls_at me settings path) old new → IfSome old AreMet → IfSome new AreMet
-  met_on path None new none met = subst (λ (o : Option Publishing). IfSome o AreMet) (sym none) tt
-  met_on path (Some old) None look met = absurd look
-  met_on path (Some old) (Some new) look met = met_after path old new look met
+  met_on : (path : List ℕ) (old new : Option Publishing) (look : Option Look)
+      → Looks (rolls_at me settings path) old look new → IfSome old AreMet → IfSome new AreMet
+  met_on path None new look none met = subst (λ (o : Option Publishing). IfSome o AreMet) (sym none.1) tt
+  met_on path (Some old) None None is met = absurd is
+  met_on path (Some old) None (Some look) is met = absurd is
+  met_on path (Some old) (Some new) None is met = absurd is
+  met_on path (Some old) (Some new) (Some look) is met = met_after path old new look is met
 
-  look_met : (path : Option (List ℕ)) (old new : Option Publishing)
-      → IsLook (option_map (rolls_at me settings) path) old new
+  look_met : (path : Option (List ℕ)) (old new : Option Publishing) (look : Option Look)
+      → IsLook (option_map (rolls_at me settings) path) old look new
       → IfSome old AreMet → IfSome new AreMet
-  look_met None old new same met = subst (λ (o : Option Publishing). IfSome o AreMet) (sym same) met
-  look_met (Some path) old new look met = met_on path old new look met
+  look_met None old new look same met = subst (λ (o : Option Publishing). IfSome o AreMet) (sym same.1) met
+  look_met (Some path) old new look is met = met_on path old new look is met
 
   led_met : (path : Option (List ℕ)) (first led : Option Publishing)
       → IsLed (option_map (rolls_at me settings) path) first led
       → IfSome first AreMet → IfSome led AreMet
   led_met path first led IsLed.begins met = met
-  led_met path first led (IsLed.looks mid last earlier look) met =
-      look_met path mid last look (led_met path first mid earlier met)
+  led_met path first led (IsLed.looks mid last look earlier is) met =
+      look_met path mid last look is (led_met path first mid earlier met)
 
   ever_of : (p : Publishing) → AreMet p → AreEverPeers me settings p
   ever_of p met second =

@@ -20,7 +20,7 @@ returns-clause-follows g c k0 o0 b =
     let before = output (g.O.Sink.held c.args.sink.now) (g.O.Sink.faults c.args.sink.now) in
     let after = output (g.O.Sink.held c.take_and_tell-taken.new.sink) (g.O.Sink.faults c.take_and_tell-taken.new.sink) in
     let far = relisted start turns may pulse k0 o0 (known c.args.pass.now) (known c.relist_at.new.pass) before now
-    c.args.progress.now.standing c.look_at-look.new.standing standing c.now-now.ensures.may c.look_at-look.ensures
+    c.args.progress.now.standing c.look_at-look.new.standing standing c.look_at-look.result c.now-now.ensures.may c.look_at-look.ensures
     c.in-Ok.ensures.relisted b in
     let called = c.in-Ok-timer.ensures.called in
     let due = timed start turns may pulse k0 o0 (known c.relist_at.new.pass) (known c.timer.new.pass) before now
@@ -42,7 +42,7 @@ returns-in-Err-timer-clause-follows g c k0 o0 b =
     let standing = c.relist_at.new.standing in
     let before = output (g.O.Sink.held c.args.sink.now) (g.O.Sink.faults c.args.sink.now) in
     let far = relisted start turns may pulse k0 o0 (known c.args.pass.now) (known c.relist_at.new.pass) before now
-    c.args.progress.now.standing c.look_at-look.new.standing standing c.now-now.ensures.may c.look_at-look.ensures
+    c.args.progress.now.standing c.look_at-look.new.standing standing c.look_at-look.result c.now-now.ensures.may c.look_at-look.ensures
     c.in-Ok.ensures.relisted b in
     subst (λ e. Beaten start turns may pulse k0 o0 e (known c.timer.new.pass) before)
     (sym c.ending_of-in-Err-timer.ensures)
@@ -67,7 +67,7 @@ returns-clause-told g c first t =
     let gives = g.D.Board.show_gives in
     let start = start_of c.args.store.now in
     let bulletin = c.note_look.new.bulletin in
-    let kept = noted gives start first c.args.progress.now.bulletin bulletin (known c.args.pass.now).seen
+    let kept = noted gives start first c.args.progress.now.bulletin bulletin c.look_at-look.result (known c.args.pass.now).seen
     c.note_look.ensures t in
     c.take_and_tell-taken.ensures.told first
     (still_told gives start first bulletin (known c.relist_at.new.pass).seen (known c.timer.new.pass).seen
@@ -80,7 +80,7 @@ returns-in-Err-timer-clause-told g c first t =
     let gives = g.D.Board.show_gives in
     let start = start_of c.args.store.now in
     let bulletin = c.note_look.new.bulletin in
-    let kept = noted gives start first c.args.progress.now.bulletin bulletin (known c.args.pass.now).seen
+    let kept = noted gives start first c.args.progress.now.bulletin bulletin c.look_at-look.result (known c.args.pass.now).seen
     c.note_look.ensures t in
     still_told gives start first bulletin (known c.relist_at.new.pass).seen (known c.timer.new.pass).seen
     c.in-Err-timer.ensures.refused.made.begins
@@ -93,5 +93,5 @@ returns-in-Err-clause-told g c first t =
     let start = start_of c.args.store.now in
     still_told gives start first c.note_look.new.bulletin
     (known c.args.pass.now).seen (known c.relist_at.new.pass).seen c.in-Err.ensures.refused.made.begins
-    (noted gives start first c.args.progress.now.bulletin c.note_look.new.bulletin (known c.args.pass.now).seen
+    (noted gives start first c.args.progress.now.bulletin c.note_look.new.bulletin c.look_at-look.result (known c.args.pass.now).seen
     c.note_look.ensures t)
