@@ -1,5 +1,5 @@
 -- Where looks lead.
-use Rattle.std.proofs.Common.{◌≡◌, ◌∙◌, ◌+◌, ◌<◌, ℕ, List, length, take, arith, true, false, true≢false, Option, Some, None, refl, sym, subst, inl, inr}
+use Rattle.std.proofs.Common.{◌≡◌, ◌∙◌, ◌+◌, ◌<◌, ◌≤◌, ℕ, List, length, take, arith, true, false, true≢false, Option, Some, None, refl, sym, subst, inl, inr}
 use Rattle.std.proofs.lemmas.Bool.{cases_Bool}
 use Rattle.std.proofs.lemmas.List.{length-take-le}
 use Rattle.xl_publish.specs.Registers.{Register}
@@ -38,9 +38,14 @@ looked rolls now old new look due set looks later = record {
   waits = λ undue. absurd (true≢false (sym due ∙ undue));
 }
 
--- what was read is no longer than the room
+-- what was read is shorter than the room
+pub few_read : (count : ℕ) (room : List ℕ) → length room ≡ 32769 → count < length room
+    → length (take count room) ≤ 32768
+few_read count room long few = omega (arith, long, few, length-take-le count room (omega (arith, few)))
+
+-- so it is a text that may be looked at
 pub read_so : (members : List ℕ) (old new : Register) (look : Look) (count : ℕ) (room : List ℕ) → length room ≡ 32769
     → count < length room → look ≡ look_of (first_refused members old.keys 1 (lines_of (take count room)))
     → new ≡ after_text members old (take count room) → Reads members old look new
 read_so members old new look count room long few told is =
-    inr (take count room, omega (arith, long, few, length-take-le count room (omega (arith, few))), told, is)
+    inr (take count room, few_read count room long few, told, is)

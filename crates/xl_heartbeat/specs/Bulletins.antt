@@ -19,8 +19,8 @@ abbrev pub is_due : ℕ → ℕ → Bool
 is_due due now = nat_le due now || nat_lt (now + 10000) due
 
 -- what a look at rolls came to is kept, and nothing else changes
-pub record Notes {D : Type 0} (look : Look) (old new : Bulletin D) : Type 0 where
-  pub look : new.look ≡ Some look
+pub record Notes {D : Type 0} (outcome : Look) (old new : Bulletin D) : Type 0 where
+  pub look : new.look ≡ Some outcome
   pub board : new.board ≡ old.board
   pub profile : new.profile ≡ old.profile
   pub hearing : new.hearing ≡ old.hearing
