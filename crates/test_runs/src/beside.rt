@@ -115,7 +115,10 @@ fn tell(rt: &HostRuntime, ended: &Ended, clock: &HeldClock<'_>) -> io::Result<()
 }
 
 /// Runs node 1 over two links, and prints how it went.
-pub fn run_beside<R: Threads + Wait + Files + Sync>(rt: &HostRuntime, threads: &R) -> io::Result<()> {
+pub fn run_beside<R: Threads + Wait + Files + Sync>(
+    rt: &HostRuntime,
+    threads: &R,
+) -> io::Result<()> {
     let alloc = rt.alloc();
     let (Some(me), Some(two), Some(three)) = (NodeNo::new(1), NodeNo::new(2), NodeNo::new(3)) else {
         return Ok(());
