@@ -31,6 +31,8 @@ class Status:
     heard: list = field(default_factory=list)
     # For each silent member the moment, in milliseconds, at which it was last heard.
     silent: dict = field(default_factory=dict)
+    # What became of the last look at a file of rolls: taken, unread, or refused with the line and the code.
+    rolls: tuple = None
     # The exit status, and the words that say more, if it has ended.
     ended: int = None
     cause: str = ''
@@ -54,6 +56,8 @@ class Status:
             self.heard.append(int(values[0]))
         elif word == 'silent':
             self.silent[int(values[0])] = int(values[1])
+        elif word == 'rolls':
+            self.rolls = values[0], *map(int, values[1:])
         elif word == 'ended':
             self.ended, self.cause = int(values[0]), ' '.join(values[1:])
 
@@ -116,6 +120,8 @@ def metrics_of(status, age, is_fresh):
     if status.quorum is not None:
         found.put('members', 'How many members its list has.', len(status.heard) + len(status.silent))
         found.put('members_heard', 'How many of them are heard.', len(status.heard))
+    if status.rolls:
+        found.put('rolls_taken', 'Whether no line of its file of rolls was refused.', int(status.rolls[0] == 'taken'))
     for member in sorted([*status.heard, *status.silent]):
         silent = 0 if member in status.heard else status.silent_for(member)
         found.put('member_silent_seconds', 'For how long a member is silent.', silent, member=member)

@@ -23,6 +23,10 @@ REFUSALS = {
 }
 
 
+# the most bytes of a file of rolls that a node looks at, and the most digits of a line
+MOST_BYTES, MOST_DIGITS = 32768, 2 * (HEAD.size + 4 * MOST_MEMBERS + TAG)
+
+
 @dataclass(frozen=True)
 class Roll:
     """What a publisher says: these members, from a second on until another."""
@@ -109,3 +113,16 @@ def day_of(second):
 
 def second_now():
     return int((datetime.datetime.now(datetime.timezone.utc) - FIRST_DAY).total_seconds())
+
+
+def line_wrong(line, key_of, may_name):
+    """Why a node that looks at a file of rolls refuses this line of it, in words, or None."""
+    if not line:
+        return None
+    if len(line) > MOST_DIGITS or not re.fullmatch('(?:[0-9a-fA-F]{2})+', line):
+        return 'code 39: it isn\'t the digits of a roll'
+    roll, wrong = read(bytes.fromhex(line), key_of)
+    if wrong:
+        return 'code %d: %s' % (wrong[0], REFUSALS[wrong[0]].format(*wrong[1:]))
+    strangers = [str(member) for member in roll.members if not may_name(member)]
+    return 'code 48: it names member %s, which is no peer here' % strangers[0] if strangers else None

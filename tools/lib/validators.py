@@ -6,12 +6,15 @@ import socket
 import subprocess
 import sys
 
+import node_status
 import rolls
 
 # The status of a node that has spent its turns.
 SPENT = 9
 # How long before and behind the change of a list its rolls hold, in seconds.
 HOLDS = 86400
+# A member that no node has as a peer.
+STRANGER = 63
 # How a written journal begins.
 JOURNAL = b"xl-journal 1\n"
 FIRST_PORT = 20000
@@ -106,22 +109,47 @@ class Publishers:
     def __init__(self, count, members, change):
         self.change, self.members, self.threshold = change, members, count - 1
         self.keys = {publisher: secrets.token_bytes(32) for publisher in range(1, count + 1)}
-        self.rolls = [self.roll(publisher) for publisher in self.keys]
+        self.rolls = [self.roll(publisher, 1) for publisher in self.keys]
 
-    def roll(self, publisher):
+    def roll(self, publisher, sequence):
         first = self.change if publisher == len(self.keys) else self.change - HOLDS
         named = self.members[:-1] if publisher == len(self.keys) - 1 else self.members
-        return rolls.Roll(publisher, 1, first, self.change + HOLDS, tuple(named))
+        return rolls.Roll(publisher, sequence, first, self.change + HOLDS, tuple(named))
+
+    def digits(self, roll):
+        return rolls.written(roll, self.keys[roll.publisher]).hex()
 
     def lines(self, me):
         """What stands in the settings in the place of a list and a quorum."""
-        sealed = [rolls.written(roll, self.keys[roll.publisher]).hex() for roll in self.rolls]
-        return [f"threshold = {self.threshold}", "roll = [" + ", ".join(f'"{it}"' for it in sealed) + "]"]
+        return [f"threshold = {self.threshold}", "roll = [" + ", ".join(f'"{self.digits(it)}"' for it in self.rolls) + "]"]
 
     def tables(self):
         return "".join(
             f'[[publisher]]\nnumber = {publisher}\nkey = "{key.hex()}"\n' for publisher, key in self.keys.items()
         )
+
+
+class Renewed(Publishers):
+    """The same publishers, but the rolls of the settings leave the last member out for good. It joins by newer rolls, in a
+    file that is replaced while the nodes run. The first line there is to be refused, since it names a stranger."""
+
+    FILE, REFUSED = "rolls.txt", ("refused", 1, 48)
+
+    def __init__(self, count, members, change):
+        super().__init__(count, members, change)
+        holds = change - HOLDS, change + HOLDS
+        stranger = rolls.Roll(1, 3, *holds, (members[0], STRANGER))
+        self.newer = [stranger, *(self.roll(publisher, 2) for publisher in self.keys)]
+        self.rolls = [rolls.Roll(publisher, 1, *holds, tuple(members[:-1])) for publisher in self.keys]
+
+    def lines(self, me):
+        return [*super().lines(me), f'rolls = "{self.FILE}"', 'status = "xl.status"']
+
+    def renew(self, folder):
+        """Replaces the file in the folder of a node."""
+        beside = folder / (self.FILE + ".new")
+        beside.write_text("".join(self.digits(roll) + "\n" for roll in self.newer))
+        beside.replace(folder / self.FILE)
 
 
 def settings(me, members, pairs, trust, milliseconds, asked):
@@ -193,6 +221,13 @@ class Node:
     def is_over(self, turns):
         """Whether its last life came to its end by itself: by its time, or since it had spent its turns."""
         return self.process.returncode == 0 or bool(turns) and self.process.returncode == SPENT
+
+    def status(self):
+        """What it says of itself, or None."""
+        try:
+            return node_status.read((self.folder / "xl.status").read_text())
+        except OSError:
+            return None
 
     def kept(self):
         """The number that the node keeps."""

@@ -9,4 +9,6 @@ mod fixtures;
 #[cfg(test)]
 mod gates;
 #[cfg(test)]
+mod rolls;
+#[cfg(test)]
 mod sessions;

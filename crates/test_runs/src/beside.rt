@@ -10,6 +10,7 @@ use clock::HeldClock;
 use frame::sealed_frame;
 use link::CountedLink;
 use std::alloc::{AllocError, Global};
+use std::fs::Files;
 use std::io;
 use std::sync::Wait;
 use std::sync::atomic::AtomicU64;
@@ -62,7 +63,7 @@ fn spare_of<'a>(
 }
 
 /// Runs node 1 over these links.
-fn run<R: Threads + Wait + Sync>(
+fn run<R: Threads + Wait + Files + Sync>(
     threads: &R,
     alloc: Global,
     links: Vec<Spare<CountedLink<'_>>>,
@@ -114,7 +115,10 @@ fn tell(rt: &HostRuntime, ended: &Ended, clock: &HeldClock<'_>) -> io::Result<()
 }
 
 /// Runs node 1 over two links, and prints how it went.
-pub fn run_beside<R: Threads + Wait + Sync>(rt: &HostRuntime, threads: &R) -> io::Result<()> {
+pub fn run_beside<R: Threads + Wait + Files + Sync>(
+    rt: &HostRuntime,
+    threads: &R,
+) -> io::Result<()> {
     let alloc = rt.alloc();
     let (Some(me), Some(two), Some(three)) = (NodeNo::new(1), NodeNo::new(2), NodeNo::new(3)) else {
         return Ok(());

@@ -2,6 +2,7 @@
 use crate::comparison::{Comparison, compare_front};
 use crate::run::{Run, read_run};
 use std::alloc::{AllocError, Global};
+use std::fs::Files;
 use std::io;
 use std::sync::Wait;
 use std::thread::Threads;
@@ -41,7 +42,7 @@ enum Turn {
 }
 
 /// The run whose call of this number fails.
-fn fail_one<R: Threads + Wait + Sync>(
+fn fail_one<R: Threads + Wait + Files + Sync>(
     threads: &R,
     alloc: Global,
     run: &Run,
@@ -65,7 +66,7 @@ fn fail_one<R: Threads + Wait + Sync>(
 }
 
 /// How many such calls a run makes, if each ends it with its fault as it fails; `None` if one doesn't.
-fn fail_each<R: Threads + Wait + Sync>(
+fn fail_each<R: Threads + Wait + Files + Sync>(
     threads: &R,
     alloc: Global,
     run: &Run,
@@ -82,7 +83,7 @@ fn fail_each<R: Threads + Wait + Sync>(
     Ok(None)
 }
 
-fn faults_of<R: Threads + Wait + Sync>(
+fn faults_of<R: Threads + Wait + Files + Sync>(
     threads: &R,
     alloc: Global,
     run: &Run,
@@ -98,7 +99,7 @@ fn faults_of<R: Threads + Wait + Sync>(
 }
 
 /// The faults of a line of `faults`; `None` where one of the runs ended otherwise, or the line tells of no run.
-pub fn run_with_faults<R: Threads + Wait + Sync>(
+pub fn run_with_faults<R: Threads + Wait + Files + Sync>(
     rt: &HostRuntime,
     threads: &R,
     line: &str,

@@ -21,6 +21,7 @@ use comparison::Comparison;
 use faults::run_with_faults;
 use node_ends::run_ends;
 use run::{run_named, run_refused};
+use std::fs::Files;
 use std::sync::Wait;
 use std::thread::Threads;
 use std::{fs, io};
@@ -42,7 +43,7 @@ impl Tally {
 }
 
 /// The runs that have a name, each with what became of it.
-fn run_all<R: Threads + Wait + Sync>(
+fn run_all<R: Threads + Wait + Files + Sync>(
     rt: &HostRuntime,
     threads: &R,
     tally: &mut Tally,
@@ -57,7 +58,7 @@ fn run_all<R: Threads + Wait + Sync>(
 }
 
 /// The schedules with a refused line, of which only those are printed that didn't go as they should.
-fn refuse_all<R: Threads + Wait + Sync>(
+fn refuse_all<R: Threads + Wait + Files + Sync>(
     rt: &HostRuntime,
     threads: &R,
     tally: &mut Tally,
@@ -74,7 +75,7 @@ fn refuse_all<R: Threads + Wait + Sync>(
 }
 
 /// The runs of which each call fails once.
-fn fail_all<R: Threads + Wait + Sync>(
+fn fail_all<R: Threads + Wait + Files + Sync>(
     rt: &HostRuntime,
     threads: &R,
     tally: &mut Tally,

@@ -1,6 +1,7 @@
 // How a node ends if one call of its outside fails.
 use crate::run::{BEGINNING, words_of};
 use std::alloc::{AllocError, Global};
+use std::fs::Files;
 use std::io;
 use std::sync::Wait;
 use std::thread::Threads;
@@ -53,7 +54,7 @@ impl Failing {
 }
 
 /// How a node ends if this call fails.
-fn end<R: Threads + Wait + Sync>(
+fn end<R: Threads + Wait + Files + Sync>(
     threads: &R,
     alloc: Global,
     failing: Failing,
@@ -92,7 +93,7 @@ fn end<R: Threads + Wait + Sync>(
 }
 
 /// Runs a node for each call that may fail, and prints how it ended.
-pub fn run_ends<R: Threads + Wait + Sync>(rt: &HostRuntime, threads: &R) -> io::Result<()> {
+pub fn run_ends<R: Threads + Wait + Files + Sync>(rt: &HostRuntime, threads: &R) -> io::Result<()> {
     for failing in [
         Failing::Nothing,
         Failing::Load,

@@ -1,8 +1,9 @@
 use crate::comparison::{Comparison, compare};
 use std::alloc::{AllocError, Global};
+use std::fs::{self, Files};
+use std::io;
 use std::sync::Wait;
 use std::thread::Threads;
-use std::{fs, io};
 use xl_base::Status;
 use xl_board::MemBoards;
 use xl_io::{MemSink, MemSource, PlainKeeper};
@@ -34,7 +35,7 @@ pub struct Ended {
 impl Run {
     /// The program on the input in memory, in pieces of this many bytes; the reads and the writes of these numbers
     /// fail. Of `node` the keeper, the clock and the links are in memory too; its peers say nothing.
-    pub fn end<R: Threads + Wait + Sync>(
+    pub fn end<R: Threads + Wait + Files + Sync>(
         &self,
         threads: &R,
         alloc: Global,
@@ -72,7 +73,7 @@ impl Run {
     }
 
     /// How the run goes without a fault, in pieces of each length.
-    fn go<R: Threads + Wait + Sync>(
+    fn go<R: Threads + Wait + Files + Sync>(
         &self,
         threads: &R,
         alloc: Global,
@@ -141,7 +142,7 @@ pub fn read_run(rt: &HostRuntime, line: &str) -> io::Result<Option<Run>> {
 }
 
 /// The run of a line of `runs`.
-pub fn run_named<R: Threads + Wait + Sync>(
+pub fn run_named<R: Threads + Wait + Files + Sync>(
     rt: &HostRuntime,
     threads: &R,
     line: &str,
@@ -163,7 +164,7 @@ fn lines_of(alloc: Global, text: &str) -> Result<Vec<u8>, AllocError> {
 }
 
 /// The run of a line of `refusals`.
-pub fn run_refused<R: Threads + Wait + Sync>(
+pub fn run_refused<R: Threads + Wait + Files + Sync>(
     threads: &R,
     alloc: Global,
     line: &str,

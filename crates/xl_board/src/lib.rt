@@ -8,10 +8,12 @@
 mod board;
 mod boards;
 mod memory;
+mod path;
 
 pub use board::Board;
 pub use boards::{Boards, NotOpened};
 pub use memory::{MemBoard, MemBoards};
+pub use path::FilePath;
 
 #[cfg(test)]
 mod tests;

@@ -3,3 +3,4 @@ pub mod Pulses
 pub mod SameLists
 pub mod Firsts
 pub mod Telling
+pub mod Leading

@@ -22,12 +22,15 @@ use Rattle.xl_store.specs.declared.store.StoreEnd.TheVariants as refused
 use Rattle.xl_store.specs.Calls.{Call, Made}
 use Rattle.xl_store.specs.Stores.{start_of, turns_of, IsWhy, Called, HandedOut, Refused}
 use Rattle.xl_store.proofs.Making.{made_none, made_both}
+use Rattle.xl_status.specs.declared.look.Look.{Look}
 use Rattle.xl_heartbeat.specs.declared.pulse.Pulse.{Pulse}
+use Rattle.xl_heartbeat.specs.declared.standing.Standing.{Standing}
 use Rattle.xl_heartbeat.specs.declared.ends.Ending.{Ending}
 use Rattle.xl_heartbeat.specs.declared.ends.Ending.TheVariants as ending
 use Rattle.xl_heartbeat.specs.declared.ends.Stopping.TheVariants as stopping
 use Rattle.xl_heartbeat.specs.declared.ends.BeatEnd.{BeatEnd}
 use Rattle.xl_heartbeat.specs.Lines.{report_line, report_lines}
+use Rattle.xl_heartbeat.specs.Looks.{LooksAt, standing_of, with_set}
 use Rattle.xl_heartbeat.specs.Outputs.{Output, Adds, AddsLess, IsWritten}
 use Rattle.xl_heartbeat.specs.Relisting.{made_at, relist, set_after, Relists, IsOtherList}
 use Rattle.xl_heartbeat.specs.Beats.{timer, reports, Phase, IsDue, after_beat, is_over, IsBeating, IsReason, Heartbeat, TakesReports, lines_of, stop_calls}
@@ -68,7 +71,7 @@ silent made now set next calls (Relists.stays same) = refl
 silent made now set next calls (Relists.follows list refusal other) = silent_call now list refusal
 
 module _ (start : Core) (turns : ℕ) (may : ℕ → Bool) (pulse : Pulse) (k0 : Knowledge Entry) (o0 : Output) where
-  pub beating_starts : Beating start may pulse k0 o0 (Phase.Beats pulse.list) k0 o0
+  pub beating_starts : Beating start may pulse k0 o0 (Phase.Beats (standing_of pulse)) k0 o0
   beating_starts = record {
     calls = [];
     run = IsBeating.begins;
@@ -77,40 +80,46 @@ module _ (start : Core) (turns : ℕ) (may : ℕ → Bool) (pulse : Pulse) (k0 :
     adds = adds_none o0;
   }
 
-  -- the publishers' list was asked for, if it is another than the one last set
-  pub relisted : (k new : Knowledge Entry) (o : Output) (now : ℕ) (set next : TrustedList) → may now ≡ true
-      → Relisted start (made_at pulse.publishing now) now set k next new
-      → Beating start may pulse k0 o0 (Phase.Beats set) k o → Beating start may pulse k0 o0 (Phase.Times now next) new o
-  relisted k new o now set next given r b = record {
+  -- the text was looked at if that was due, and the publishers' list was asked for, if it is another than the one last
+  -- set
+  pub relisted : (k new : Knowledge Entry) (o : Output) (now : ℕ) (before looked after : Standing) (look : Option Look)
+      → may now ≡ true
+      → LooksAt pulse.rolls now before look looked
+      → Relisted start (made_at looked.publishing now) now looked k after new
+      → Beating start may pulse k0 o0 (Phase.Beats before) k o
+      → Beating start may pulse k0 o0 (Phase.Times now after) new o
+  relisted k new o now before looked after look given looks r b = record {
     calls = b.calls ++ r.calls;
-    run = IsBeating.relists b.calls r.calls now set next b.run given r.asked;
+    run = subst (λ (s : Standing). IsBeating may pulse (b.calls ++ r.calls) (Phase.Times now s)) (sym r.is)
+        (IsBeating.relists b.calls r.calls now before looked look r.next b.run given looks r.asked);
     made = made_both start k0 k new b.calls r.calls b.made r.made;
     drawn = let p = b.drawn in let q = r.drawn in omega arith;
     adds = subst (λ t. Adds t o0 o)
-        (sym (lines_same b.calls r.calls (silent (made_at pulse.publishing now) now set next r.calls r.asked))) b.adds;
+        (sym (lines_same b.calls r.calls
+        (silent (made_at looked.publishing now) now looked.set r.next r.calls r.asked))) b.adds;
   }
 
-  pub timed : (k new : Knowledge Entry) (o : Output) (now : ℕ) (set : TrustedList) (beat : TimerAnswer)
+  pub timed : (k new : Knowledge Entry) (o : Output) (now : ℕ) (standing : Standing) (beat : TimerAnswer)
       → Made start k new (timer now beat ∷ []) → k.drawn < new.drawn
-      → Beating start may pulse k0 o0 (Phase.Times now set) k o
-      → Beating start may pulse k0 o0 (Phase.Takes now set) new o
-  timed k new o now set beat made more b = record {
+      → Beating start may pulse k0 o0 (Phase.Times now standing) k o
+      → Beating start may pulse k0 o0 (Phase.Takes now standing) new o
+  timed k new o now standing beat made more b = record {
     calls = b.calls ++ timer now beat ∷ [];
-    run = IsBeating.beats b.calls now set beat b.run;
+    run = IsBeating.beats b.calls now standing beat b.run;
     made = made_both start k0 k new b.calls (timer now beat ∷ []) b.made made;
     drawn = let p = b.drawn in omega arith;
     adds = subst (λ t. Adds t o0 o) (sym (lines_same b.calls (timer now beat ∷ []) refl)) b.adds;
   }
 
   -- reports were taken, and their lines written
-  taken_all : (phase : Phase) (k new : Knowledge Entry) (o o' : Output) (now : ℕ) (set : TrustedList)
-      → after_beat pulse.timing now set ≡ phase
-      → Beating start may pulse k0 o0 (Phase.Takes now set) k o → TakesReports start turns k o ending.Done new o'
+  taken_all : (phase : Phase) (k new : Knowledge Entry) (o o' : Output) (now : ℕ) (standing : Standing)
+      → after_beat pulse.timing now standing ≡ phase
+      → Beating start may pulse k0 o0 (Phase.Takes now standing) k o → TakesReports start turns k o ending.Done new o'
       → Beating start may pulse k0 o0 phase new o'
-  taken_all phase k new o o' now set is b t = record {
+  taken_all phase k new o o' now standing is b t = record {
     calls = b.calls ++ reports t.handed ∷ [];
     run = subst (λ p. IsBeating may pulse (b.calls ++ reports t.handed ∷ []) p) is
-        (IsBeating.takes b.calls now set t.handed b.run);
+        (IsBeating.takes b.calls now standing t.handed b.run);
     made = made_both start k0 k new b.calls (reports t.handed ∷ []) b.made t.made;
     drawn = let p = b.drawn in let q = t.drawn in omega arith;
     adds = subst (λ l. Adds l o0 o') (sym (lines_more b.calls (reports t.handed ∷ [])))
@@ -131,14 +140,15 @@ module _ (start : Core) (turns : ℕ) (may : ℕ → Bool) (pulse : Pulse) (k0 :
     reason = reason;
   }
 
-  taken_done : (over : Bool) (k new : Knowledge Entry) (o o' : Output) (now : ℕ) (set : TrustedList)
+  taken_done : (over : Bool) (k new : Knowledge Entry) (o o' : Output) (now : ℕ) (standing : Standing)
       → is_over pulse.timing now ≡ over
-      → Beating start may pulse k0 o0 (Phase.Takes now set) k o → TakesReports start turns k o ending.Done new o'
-      → Follows start turns may pulse k0 o0 set (after_reports ending.Done over) new o'
-  taken_done true k new o o' now set is b t =
-      let last = taken_all Phase.Over k new o o' now set (rw is refl) b t in
+      → Beating start may pulse k0 o0 (Phase.Takes now standing) k o → TakesReports start turns k o ending.Done new o'
+      → Follows start turns may pulse k0 o0 standing (after_reports ending.Done over) new o'
+  taken_done true k new o o' now standing is b t =
+      let last = taken_all Phase.Over k new o o' now standing (rw is refl) b t in
       beaten ending.Done new o' Phase.Over last last.adds refl
-  taken_done false k new o o' now set is b t = taken_all (Phase.Beats set) k new o o' now set (rw is refl) b t
+  taken_done false k new o o' now standing is b t =
+      taken_all (Phase.Beats standing) k new o o' now standing (rw is refl) b t
 
   -- the call had no turn
   pub cut : (e : StoreEnd) (p : Phase) (k new : Knowledge Entry) (o : Output) → Made start k new []
@@ -156,34 +166,34 @@ module _ (start : Core) (turns : ℕ) (may : ℕ → Bool) (pulse : Pulse) (k0 :
   }
 
   -- after the reports were taken the beats go on, or are over
-  pub taken : (e : Ending) (k new : Knowledge Entry) (o o' : Output) (now : ℕ) (set : TrustedList)
-      → Beating start may pulse k0 o0 (Phase.Takes now set) k o → TakesReports start turns k o e new o'
-      → Follows start turns may pulse k0 o0 set (after_reports e (is_over pulse.timing now)) new o'
-  taken ending.Done k new o o' now set b t = taken_done (is_over pulse.timing now) k new o o' now set refl b t
-  taken ending.WriteFault k new o o' now set b t = record {
+  pub taken : (e : Ending) (k new : Knowledge Entry) (o o' : Output) (now : ℕ) (standing : Standing)
+      → Beating start may pulse k0 o0 (Phase.Takes now standing) k o → TakesReports start turns k o e new o'
+      → Follows start turns may pulse k0 o0 standing (after_reports e (is_over pulse.timing now)) new o'
+  taken ending.Done k new o o' now standing b t = taken_done (is_over pulse.timing now) k new o o' now standing refl b t
+  taken ending.WriteFault k new o o' now standing b t = record {
     calls = b.calls ++ reports t.handed ∷ [];
-    phase = after_beat pulse.timing now set;
-    run = IsBeating.takes b.calls now set t.handed b.run;
+    phase = after_beat pulse.timing now standing;
+    run = IsBeating.takes b.calls now standing t.handed b.run;
     made = made_both start k0 k new b.calls (reports t.handed ∷ []) b.made t.made;
     drawn = let p = b.drawn in let q = t.drawn in omega arith;
     written = subst (λ l. IsWritten ending.WriteFault l o0 o') (sym (lines_more b.calls (reports t.handed ∷ [])))
         (written_both o0 o o' (lines_of b.calls) (lines_of (reports t.handed ∷ [])) ending.WriteFault b.adds t.written);
     reason = (t.handed, (b.calls, refl));
   }
-  taken ending.OutOfMemory k new o o' now set b t = record {
+  taken ending.OutOfMemory k new o o' now standing b t = record {
     calls = b.calls ++ [];
-    phase = Phase.Takes now set;
-    run = subst (λ cs. IsBeating may pulse cs (Phase.Takes now set)) (sym (append-nil b.calls)) b.run;
+    phase = Phase.Takes now standing;
+    run = subst (λ cs. IsBeating may pulse cs (Phase.Takes now standing)) (sym (append-nil b.calls)) b.run;
     made = made_both start k0 k new b.calls [] b.made t.made;
     drawn = let p = b.drawn in let q = t.drawn in omega arith;
     written = subst (λ l. Adds l o0 o') (sym (lines_more b.calls []))
         (adds_both o0 o o' (lines_of b.calls) [] b.adds t.written);
     reason = tt;
   }
-  taken (ending.StoreFull n) k new o o' now set b t = record {
+  taken (ending.StoreFull n) k new o o' now standing b t = record {
     calls = b.calls ++ [];
-    phase = Phase.Takes now set;
-    run = subst (λ cs. IsBeating may pulse cs (Phase.Takes now set)) (sym (append-nil b.calls)) b.run;
+    phase = Phase.Takes now standing;
+    run = subst (λ cs. IsBeating may pulse cs (Phase.Takes now standing)) (sym (append-nil b.calls)) b.run;
     made = made_both start k0 k new b.calls [] b.made t.made;
     drawn = let p = b.drawn in let q = t.drawn in omega arith;
     written = subst (λ l. Adds l o0 o') (sym (lines_more b.calls []))
@@ -247,38 +257,46 @@ module _ {B K : Type 0} (store : Store B K) where
   }
 
   -- there is no other list
-  pub unasked : (made : Option TrustedList) (now : ℕ) (set : TrustedList) (k : Knowledge Entry)
-      → IsOtherList made set None → Relisted (start_of store) made now set k set k
-  unasked made now set k same = record {
+  pub unasked : (made : Option TrustedList) (now : ℕ) (standing : Standing) (k : Knowledge Entry)
+      → IsOtherList made standing.set None → Relisted (start_of store) made now standing k standing k
+  unasked made now standing k same = record {
     calls = [];
+    next = standing.set;
     asked = Relists.stays same;
+    is = refl;
     made = made_none (start_of store) k k refl refl refl;
     drawn = omega arith;
   }
 
-  asked : (made : Option TrustedList) (now : ℕ) (set list : TrustedList) (refusal : Option Refusal)
-      (old new : Pass Entry) → IsOtherList made set (Some list)
+  asked : (made : Option TrustedList) (now : ℕ) (standing : Standing) (list : TrustedList) (refusal : Option Refusal)
+      (old new : Pass Entry) → IsOtherList made standing.set (Some list)
       → Made (start_of store) (known old) (known new) (relist now list refusal ∷ [])
       → (known old).drawn < (known new).drawn
-      → Relisted (start_of store) made now set (known old) (set_after set list refusal) (known new)
-  asked made now set list refusal old new other calls later = record {
+      → Relisted (start_of store) made now standing (known old)
+      (with_set standing (set_after standing.set list refusal)) (known new)
+  asked made now standing list refusal old new other calls later = record {
     calls = relist now list refusal ∷ [];
+    next = set_after standing.set list refusal;
     asked = Relists.follows list refusal other;
+    is = refl;
     made = calls;
     drawn = omega (arith, later);
   }
 
   -- the other list is set
-  pub set_now : (made : Option TrustedList) (now : ℕ) (set list : TrustedList) (old new : Pass Entry)
-      → IsOtherList made set (Some list) → Called store old (Relist now list) Done new
-      → Relisted (start_of store) made now set (known old) list (known new)
-  set_now made now set list old new other c = asked made now set list None old new other c.made c.later
+  pub set_now : (made : Option TrustedList) (now : ℕ) (standing : Standing) (list : TrustedList) (old new : Pass Entry)
+      → IsOtherList made standing.set (Some list) → Called store old (Relist now list) Done new
+      → Relisted (start_of store) made now standing (known old) (with_set standing list) (known new)
+  set_now made now standing list old new other c =
+      asked made now standing list None old new other c.made c.later
 
   -- it is refused
-  pub not_set : (made : Option TrustedList) (now : ℕ) (set list : TrustedList) (why : Refusal) (old new : Pass Entry)
-      → IsOtherList made set (Some list) → Called store old (Relist now list) (answer.Refused why) new
-      → Relisted (start_of store) made now set (known old) set (known new)
-  not_set made now set list why old new other c = asked made now set list (Some why) old new other c.made c.later
+  pub not_set : (made : Option TrustedList) (now : ℕ) (standing : Standing) (list : TrustedList) (why : Refusal)
+      (old new : Pass Entry)
+      → IsOtherList made standing.set (Some list) → Called store old (Relist now list) (answer.Refused why) new
+      → Relisted (start_of store) made now standing (known old) standing (known new)
+  not_set made now standing list why old new other c =
+      asked made now standing list (Some why) old new other c.made c.later
 
   pub told : (old : Knowledge Entry) (mid new : Pass Entry) → known mid ≡ old → Called store mid Stop Done new
       → Stops (start_of store) (turns_of store) old stopping.Done (known new)

@@ -1,6 +1,7 @@
 -- The heartbeat of a running node, and how reports are taken. Source: this project's own.
 use Rattle.std.specs.Prelude.{◌≡◌, ℕ, ◌+◌, ◌==◌, ◌&&◌, ◌≤◌, nat_le, Bool, true, not, List, [], ◌∷◌, ◌++◌, if◌then◌else◌}
 use Rattle.std.specs.List.{flat_map}
+use Rattle.std.specs.declared.option.Option.{Option}
 use Rattle.xl_lists.specs.Lists.{TrustedList}
 use Rattle.xl_turns.specs.declared.view.Knowledge.{Knowledge}
 use Rattle.xl_core.specs.declared.timer_answer.TimerAnswer.{TimerAnswer}
@@ -10,14 +11,17 @@ use Rattle.xl_core.specs.Answers as answer
 use Rattle.xl_core.specs.Core.{Core}
 use Rattle.xl_store.specs.declared.entry.Entry.{Entry}
 use Rattle.xl_store.specs.Calls.{Call, Made}
+use Rattle.xl_status.specs.declared.look.Look.{Look}
 use Rattle.xl_heartbeat.specs.declared.timing.Timing.{Timing}
 use Rattle.xl_heartbeat.specs.declared.pulse.Pulse.{Pulse}
+use Rattle.xl_heartbeat.specs.declared.standing.Standing.{Standing}
 use Rattle.xl_heartbeat.specs.declared.ends.Ending.{Ending}
 use Rattle.xl_heartbeat.specs.declared.ends.Ending.TheVariants as ending
 use Rattle.xl_heartbeat.specs.declared.ends.Stopping.{Stopping}
 use Rattle.xl_heartbeat.specs.declared.ends.Stopping.TheVariants as stopping
 use Rattle.xl_heartbeat.specs.declared.ends.BeatEnd.{BeatEnd}
 use Rattle.xl_heartbeat.specs.Lines.{report_lines}
+use Rattle.xl_heartbeat.specs.Looks.{LooksAt, standing_of, with_set}
 use Rattle.xl_heartbeat.specs.Outputs.{Output, IsWritten}
 use Rattle.xl_heartbeat.specs.Relisting.{made_at, Relists}
 use Rattle.xl_heartbeat.specs.Rooms.{room}
@@ -40,39 +44,41 @@ lines_of calls = report_lines (flat_map (λ call. answer.handed_in call.answer) 
 abbrev pub is_over : Timing → ℕ → Bool
 is_over timing now = not (timing.run == 0) && nat_le (timing.opened + timing.run) now
 
--- what is to be done next: a beat, this list being the one last set; the timer of a moment; reports after it; or
+-- what is to be done next: a beat, this being what it goes on from; the timer of a moment; reports after it; or
 -- nothing, since the time is over
 pub data Phase : Type 0 where
-  Beats : (set : TrustedList) → Phase
-  Times : (now : ℕ) (set : TrustedList) → Phase
-  Takes : (now : ℕ) (set : TrustedList) → Phase
+  Beats : (standing : Standing) → Phase
+  Times : (now : ℕ) (standing : Standing) → Phase
+  Takes : (now : ℕ) (standing : Standing) → Phase
   Over : Phase
 
-abbrev pub after_beat : Timing → ℕ → TrustedList → Phase
-after_beat timing now set = if is_over timing now then Over else Beats set
+abbrev pub after_beat : Timing → ℕ → Standing → Phase
+after_beat timing now standing = if is_over timing now then Over else Beats standing
 
 -- a call is to be made next
 abbrev pub IsDue : Phase → Type 0
-IsDue (Beats set) = Unit {0}
-IsDue (Times now set) = Unit {0}
-IsDue (Takes now set) = Unit {0}
+IsDue (Beats standing) = Unit {0}
+IsDue (Times now standing) = Unit {0}
+IsDue (Takes now standing) = Unit {0}
 IsDue Over = ⊥
 
--- Beats, as far as they came. Each, at a moment that the clock may give, asks for the publishers' list if it is another
--- than the one last set, then has the timer, and then takes reports. The first beat at whose moment the time is over is
--- the last
+-- Beats, as far as they came. Each, at a moment that the clock may give, looks at the text of rolls if that is due, and
+-- asks for the list that the publishers then make if it is another than the one last set. Then it has the timer, and
+-- then takes reports. The first beat at whose moment the time is over is the last
 pub data IsBeating (may_give : ℕ → Bool) (pulse : Pulse) : List Call → Phase → Type 0 where
-  begins : IsBeating may_give pulse [] (Beats pulse.list)
-  relists : (calls asked : List Call) (now : ℕ) (set next : TrustedList) → IsBeating may_give pulse calls (Beats set)
+  begins : IsBeating may_give pulse [] (Beats (standing_of pulse))
+  relists : (calls asked : List Call) (now : ℕ) (before looked : Standing) (look : Option Look) (next : TrustedList)
+      → IsBeating may_give pulse calls (Beats before)
       → may_give now ≡ true
-      → Relists (made_at pulse.publishing now) now set asked next
-      → IsBeating may_give pulse (calls ++ asked) (Times now next)
-  beats : (calls : List Call) (now : ℕ) (set : TrustedList) (beat : TimerAnswer)
-      → IsBeating may_give pulse calls (Times now set)
-      → IsBeating may_give pulse (calls ++ timer now beat ∷ []) (Takes now set)
-  takes : (calls : List Call) (now : ℕ) (set : TrustedList) (handed : List Report)
-      → IsBeating may_give pulse calls (Takes now set)
-      → IsBeating may_give pulse (calls ++ reports handed ∷ []) (after_beat pulse.timing now set)
+      → LooksAt pulse.rolls now before look looked
+      → Relists (made_at looked.publishing now) now looked.set asked next
+      → IsBeating may_give pulse (calls ++ asked) (Times now (with_set looked next))
+  beats : (calls : List Call) (now : ℕ) (standing : Standing) (beat : TimerAnswer)
+      → IsBeating may_give pulse calls (Times now standing)
+      → IsBeating may_give pulse (calls ++ timer now beat ∷ []) (Takes now standing)
+  takes : (calls : List Call) (now : ℕ) (standing : Standing) (handed : List Report)
+      → IsBeating may_give pulse calls (Takes now standing)
+      → IsBeating may_give pulse (calls ++ reports handed ∷ []) (after_beat pulse.timing now standing)
 
 -- it was the last call
 abbrev pub IsLast : List Call → Call → Type 0

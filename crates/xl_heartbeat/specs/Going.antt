@@ -9,9 +9,11 @@ use Rattle.xl_store.specs.declared.store.StoreEnd.{StoreEnd}
 use Rattle.xl_store.specs.declared.store.StoreEnd.TheVariants as refused
 use Rattle.xl_store.specs.Calls.{Call, Made}
 use Rattle.xl_heartbeat.specs.declared.pulse.Pulse.{Pulse}
+use Rattle.xl_heartbeat.specs.declared.standing.Standing.{Standing}
 use Rattle.xl_heartbeat.specs.declared.ends.Ending.{Ending}
 use Rattle.xl_heartbeat.specs.declared.ends.Ending.TheVariants as ending
 use Rattle.xl_heartbeat.specs.declared.ends.Stopping.{Stopping}
+use Rattle.xl_heartbeat.specs.Looks.{with_set}
 use Rattle.xl_heartbeat.specs.Outputs.{Output, Adds, IsWritten}
 use Rattle.xl_heartbeat.specs.Relisting.{Relists}
 use Rattle.xl_heartbeat.specs.Beats.{Phase, IsBeating, IsReason, IsStop, lines_of, stop_calls}
@@ -51,19 +53,21 @@ pub record Beaten
   pub written : IsWritten end (lines_of calls) old_output new_output
   pub reason : IsReason turns calls phase new.drawn end
 
--- they go on, this list being the one last set, or are over
+-- they go on from there, or are over
 abbrev pub Follows : Core → ℕ → (ℕ → Bool) → Pulse
-    → Knowledge Entry → Output → TrustedList → Option Ending → Knowledge Entry → Output → Type 0
-Follows start turns may_give pulse old old_output set None new new_output =
-    Beating start may_give pulse old old_output (Phase.Beats set) new new_output
-Follows start turns may_give pulse old old_output set (Some end) new new_output =
+    → Knowledge Entry → Output → Standing → Option Ending → Knowledge Entry → Output → Type 0
+Follows start turns may_give pulse old old_output standing None new new_output =
+    Beating start may_give pulse old old_output (Phase.Beats standing) new new_output
+Follows start turns may_give pulse old old_output standing (Some end) new new_output =
     Beaten start turns may_give pulse old old_output end new new_output
 
 -- the publishers' list of a moment was asked for, if it is another than the one last set
-pub record Relisted (start : Core) (theirs : Option TrustedList) (now : ℕ) (set : TrustedList)
-    (old : Knowledge Entry) (next : TrustedList) (new : Knowledge Entry) : Type 0 where
+pub record Relisted (start : Core) (theirs : Option TrustedList) (now : ℕ) (before : Standing)
+    (old : Knowledge Entry) (after : Standing) (new : Knowledge Entry) : Type 0 where
   pub calls : List Call
-  pub asked : Relists theirs now set calls next
+  pub next : TrustedList
+  pub asked : Relists theirs now before.set calls next
+  pub is : after ≡ with_set before next
   pub made : Made start old new calls
   pub drawn : old.drawn ≤ new.drawn
 

@@ -2,6 +2,7 @@ pub mod Rooms
 pub mod Lines
 pub mod Outputs
 pub mod Relisting
+pub mod Looks
 pub mod Beats
 pub mod Statuses
 pub mod Bulletins

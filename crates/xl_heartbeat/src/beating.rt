@@ -12,16 +12,19 @@ ghost use Rattle.xl_heartbeat.specs.Beats.Phase.{Beats};
 ghost use Rattle.xl_heartbeat.specs.Going.{Beating, Follows, Stops};
 
 use crate::Bulletin;
+use crate::bulletin::note_look;
 use crate::ends::{BeatEnd, Ending, Stopping, after_reports, ending_of};
+use crate::looking::look_at;
 use crate::pulse::Pulse;
 use crate::relisting::relist_at;
 use crate::reporting::take_and_tell;
+use crate::standing::Standing;
+use std::fs::Files;
 use std::sync::Wait;
 use xl_board::Board;
 use xl_io::{Keeper, Sink};
 use xl_ledger::Branch;
 use xl_links::Clock;
-use xl_lists::List;
 use xl_store::{Pass, Store, StoreEnd};
 
 /// How long to wait before the store is told again that the node is to stop, in milliseconds.
@@ -34,23 +37,31 @@ pub struct BeatLeft<D> {
     pub bulletin: Option<Bulletin<D>>,
 }
 
-/// What goes along with the beats: the list that was set last, and the bulletin.
+/// What goes along with the beats: the list that was set last and what makes the next one, and the bulletin.
 #[derive(Drop)]
 struct Progress<D> {
-    set: List,
+    standing: Standing,
     bulletin: Option<Bulletin<D>>,
 }
 
 /// Beats until the time of the run is over, and then tells the store that the node is to stop.
 ///
-/// Each beat waits and takes the clock's moment. It sets the publishers' list of that second, if it is another than the
-/// one last set, tells the store the moment, takes the reports and writes a line for each. The first beat at whose
-/// moment the time is over is the last. A write's fault, memory that runs out and a full store end the beats too. The
-/// store is told to stop whatever ended them, and again a second later if memory ran out; if it is full it isn't told.
+/// Each beat waits and takes the clock's moment. It looks at the text of rolls, if there is one and that is due, and
+/// takes the rolls of it that aren't refused. It sets the publishers' list of that second, if it is another than the one
+/// last set, tells the store the moment, takes the reports and writes a line for each. The first beat at whose moment
+/// the time is over is the last. A write's fault, memory that runs out and a full store end the beats too. The store is
+/// told to stop whatever ended them, and again a second later if memory ran out; if it is full it isn't told.
 ///
 /// On the bulletin, if there is one, it tells each ten seconds how the node is. That takes no turn more: the core is
 /// looked at in the turn in which reports are taken.
-pub fn beat<W: Wait, B: Branch + Drop, K: Keeper + Drop, O: Sink, C: Clock, D: Board + Drop>(
+pub fn beat<
+    W: Wait + Files,
+    B: Branch + Drop,
+    K: Keeper + Drop,
+    O: Sink,
+    C: Clock,
+    D: Board + Drop,
+>(
     rt: &W,
     store: &Store<B, K>,
     clock: &C,
@@ -68,13 +79,16 @@ pub fn beat<W: Wait, B: Branch + Drop, K: Keeper + Drop, O: Sink, C: Clock, D: B
     ensures told { ToldIf D.show_gives (start_of store.now) bulletin (known pass.new).seen result.bulletin }
 {
     let mut progress = Progress {
-        set: pulse.list.copy(),
+        standing: Standing::of(pulse),
         bulletin,
     };
     for _ in rt.forever() {
         if let Some(run) = beat_once(rt, store, clock, sink, pulse, &mut progress, pass) {
             let stop = tell_to_stop(rt, store, clock, pass);
-            let Progress { set: _, bulletin } = progress;
+            let Progress {
+                standing: _,
+                bulletin,
+            } = progress;
             return BeatLeft {
                 end: BeatEnd { run, stop },
                 bulletin,
@@ -84,8 +98,16 @@ pub fn beat<W: Wait, B: Branch + Drop, K: Keeper + Drop, O: Sink, C: Clock, D: B
     unreachable!()
 }
 
-/// One beat, and why it was the last, if it was. The publishers' list is set before the timer, which counts by it.
-fn beat_once<W: Wait, B: Branch + Drop, K: Keeper + Drop, O: Sink, C: Clock, D: Board + Drop>(
+/// One beat, and why it was the last, if it was. The text of rolls is looked at before the publishers' list is set, and
+/// that is set before the timer, which counts by it.
+fn beat_once<
+    W: Wait + Files,
+    B: Branch + Drop,
+    K: Keeper + Drop,
+    O: Sink,
+    C: Clock,
+    D: Board + Drop,
+>(
     rt: &W,
     store: &Store<B, K>,
     clock: &C,
@@ -97,17 +119,19 @@ fn beat_once<W: Wait, B: Branch + Drop, K: Keeper + Drop, O: Sink, C: Clock, D: 
     requires pass { IsOf store.now pass.old }
     ensures pass { IsOf store.now pass.new }
     ensures follows { (k : Knowledge Entry) (o : Output)
-        → Beating (start_of store.now) (C.may_give clock.now) pulse.now k o (Beats progress.old.set)
+        → Beating (start_of store.now) (C.may_give clock.now) pulse.now k o (Beats progress.old.standing)
         (known pass.old) (output (O.held sink.old) (O.faults sink.old))
-        → Follows (start_of store.now) (turns_of store.now) (C.may_give clock.now) pulse.now k o progress.new.set result
-        (known pass.new) (output (O.held sink.new) (O.faults sink.new)) }
+        → Follows (start_of store.now) (turns_of store.now) (C.may_give clock.now) pulse.now k o
+        progress.new.standing result (known pass.new) (output (O.held sink.new) (O.faults sink.new)) }
     ensures told { (first : Option (TheBulletin D))
         → ToldIf D.show_gives (start_of store.now) first (known pass.old).seen progress.old.bulletin
         → ToldIf D.show_gives (start_of store.now) first (known pass.new).seen progress.new.bulletin }
 {
     clock.wait(pulse.timing.every);
     let now = clock.now();
-    match relist_at(rt, store, &pulse.publishing, &mut progress.set, now, pass) {
+    let look = look_at(rt, &pulse.rolls, &mut progress.standing, now);
+    note_look(&mut progress.bulletin, look);
+    match relist_at(rt, store, &mut progress.standing, now, pass) {
         Ok(()) => {}
         Err(end) => return Some(ending_of(end)),
     }

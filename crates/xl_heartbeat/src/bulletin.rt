@@ -2,12 +2,12 @@ ghost use Rattle.std.specs.Prelude.{◌≡◌, ◌+◌, ◌≤◌, IfOk, Some, N
 ghost use Rattle.std.specs.String.{string_bytes};
 ghost use Rattle.xl_base.specs.Moments.{greatest_millis};
 ghost use Rattle.xl_status.specs.Texts.{status_text, unopened_text};
-ghost use Rattle.xl_heartbeat.specs.Bulletins.{is_due as is_due_of, Shows, Tells, TellsEnd, TellsUnopened};
+ghost use Rattle.xl_heartbeat.specs.Bulletins.{is_due as is_due_of, NotesIf, Shows, Tells, TellsEnd, TellsUnopened};
 
 use std::alloc::Global;
 use xl_base::{Millis, OutOfMemory, Status};
 use xl_board::Board;
-use xl_status::{Hearing, Profile, push_status, push_unopened};
+use xl_status::{Hearing, Look, Profile, push_status, push_unopened};
 use xl_store::NodeStatus;
 
 /// The milliseconds from text to text.
@@ -22,6 +22,8 @@ pub struct Bulletin<D> {
     pub hearing: Hearing,
     /// The moment from which on the next text is due.
     pub due: Millis,
+    /// What became of the last look at a text of rolls, if there was one.
+    pub look: Option<Look>,
 }
 
 impl<D: Board> Bulletin<D> {
@@ -47,6 +49,7 @@ impl<D: Board> Bulletin<D> {
             &self.profile,
             &self.hearing,
             status,
+            self.look,
             None,
         );
     }
@@ -62,6 +65,7 @@ impl<D: Board> Bulletin<D> {
             &self.profile,
             &self.hearing,
             status,
+            self.look,
             Some(ended),
         );
     }
@@ -76,6 +80,25 @@ impl<D: Board> Bulletin<D> {
     }
 }
 
+/// Keeps what became of a look, if there was one, for the texts that follow.
+pub(crate) fn note_look<D>(bulletin: &mut Option<Bulletin<D>>, look: Option<Look>)
+    ensures { NotesIf look bulletin.old bulletin.new }
+{
+    match look {
+        Some(look) => note(bulletin, look),
+        None => {}
+    }
+}
+
+fn note<D>(bulletin: &mut Option<Bulletin<D>>, look: Look)
+    ensures { NotesIf (Some look) bulletin.old bulletin.new }
+{
+    match bulletin {
+        Some(bulletin) => bulletin.look = Some(look),
+        None => {}
+    }
+}
+
 /// Shows the text of a node that runs, or that has ended so, if there is memory for it.
 fn show_status<D: Board>(
     alloc: Global,
@@ -83,11 +106,12 @@ fn show_status<D: Board>(
     profile: &Profile,
     hearing: &Hearing,
     status: &NodeStatus,
+    look: Option<Look>,
     ended: Option<Status>,
 )
-    ensures { Shows D.show_gives (status_text profile.now status.now hearing.now ended) board.old board.new }
+    ensures { Shows D.show_gives (status_text profile.now status.now hearing.now look ended) board.old board.new }
 {
-    if let Ok(text) = text_of(alloc, profile, hearing, status, ended) {
+    if let Ok(text) = text_of(alloc, profile, hearing, status, look, ended) {
         let _ = board.show(text.as_bytes());
     }
 }
@@ -98,12 +122,13 @@ fn text_of(
     profile: &Profile,
     hearing: &Hearing,
     status: &NodeStatus,
+    look: Option<Look>,
     ended: Option<Status>,
 ) -> Result<String, OutOfMemory>
-    ensures { IfOk result (λ text. string_bytes text ≡ status_text profile.now status.now hearing.now ended) }
+    ensures { IfOk result (λ text. string_bytes text ≡ status_text profile.now status.now hearing.now look ended) }
 {
     let mut text = String::new(alloc);
-    push_status(alloc, &mut text, profile, status, hearing, ended)?;
+    push_status(alloc, &mut text, profile, status, hearing, look, ended)?;
     Ok(text)
 }
 

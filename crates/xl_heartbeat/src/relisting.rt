@@ -6,6 +6,7 @@ ghost use Rattle.xl_store.specs.Stores.{start_of, IsOf, Refused};
 ghost use Rattle.xl_heartbeat.specs.Relisting.{made_at, IsOtherList};
 ghost use Rattle.xl_heartbeat.specs.Going.{Relisted};
 
+use crate::standing::Standing;
 use std::sync::Wait;
 use xl_base::{Millis, secs_of};
 use xl_io::Keeper;
@@ -19,24 +20,23 @@ use xl_store::{Pass, Store, StoreEnd};
 pub(crate) fn relist_at<W: Wait, B: Branch + Drop, K: Keeper + Drop>(
     rt: &W,
     store: &Store<B, K>,
-    publishing: &Option<Publishing>,
-    set: &mut List,
+    standing: &mut Standing,
     now: Millis,
     pass: &mut Pass,
 ) -> Result<(), StoreEnd>
     requires pass { IsOf store.now pass.old }
     requires moment { now ≤ greatest_millis }
     ensures pass { IsOf store.now pass.new }
-    ensures relisted { IfOk result (λ _. Relisted (start_of store.now) (made_at publishing.now now) now set.old
-        (known pass.old) set.new (known pass.new)) }
+    ensures relisted { IfOk result (λ _. Relisted (start_of store.now) (made_at standing.old.publishing now) now
+        standing.old (known pass.old) standing.new (known pass.new)) }
     ensures refused { IfErr result (λ end. Refused store.now pass.old end pass.new) }
 {
-    let Some(list) = other_list(publishing, set, now) else {
+    let Some(list) = other_list(&standing.publishing, &standing.set, now) else {
         return Ok(());
     };
     match store.relist(rt, pass, now, list.copy()) {
         Ok(Ok(())) => {
-            *set = list;
+            standing.set = list;
             Ok(())
         }
         Ok(Err(_)) => Ok(()),

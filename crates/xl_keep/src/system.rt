@@ -132,7 +132,7 @@ where
 }
 
 /// Reads to the end of the file, which must come before the end of the room.
-fn read_whole<F: Read>(file: &mut F, room: &mut [u8]) -> io::Result<usize>
+pub(crate) fn read_whole<F: Read>(file: &mut F, room: &mut [u8]) -> io::Result<usize>
     ensures same { length room.new ≡ length room.old }
     ensures fits { IfOk result (λ n. n < length room.new) }
 {

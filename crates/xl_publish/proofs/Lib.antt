@@ -6,3 +6,5 @@ pub mod RunLaws
 pub mod ForceLaws
 pub mod PutLaws
 pub mod RightLaws
+pub mod TextLaws
+pub mod NamingLaws

@@ -1,6 +1,6 @@
 -- The members in the bytes of a roll, one after the other.
-use Rattle.std.proofs.Common.{◌≡◌, ◌≢◌, ℕ, suc, ◌+◌, ◌-◌, ◌*◌, ◌<◌, Bool, true, false, List, ◌∷◌, drop, Some, refl, sym, ap, ◌∙◌, arith}
-use Rattle.std.specs.Prelude.{◌==◌, ◌||◌}
+use Rattle.std.proofs.Common.{◌≡◌, ◌≢◌, ℕ, suc, ◌+◌, ◌-◌, ◌*◌, ◌<◌, Bool, true, false, not, List, ◌∷◌, drop, Option, Some, None, refl, sym, ap, ◌∙◌, arith}
+use Rattle.std.specs.Prelude.{◌==◌, ◌||◌, find}
 use Rattle.std.proofs.lemmas.Bool.{cond-true, cond-false}
 use Rattle.std.proofs.lemmas.Bool.Decides.{nat_tests}
 use Rattle.std.proofs.lemmas.List.{drop-drop}
@@ -65,3 +65,26 @@ named_later number place bytes there other =
   where
     differs : (a b : ℕ) → a ≢ b → (a == b) ≡ false
     differs a b e = grind (arith, nat_tests)
+
+-- ---- strangers among the members
+
+module _ (members : List ℕ) where
+  abbrev pub first_stranger : List ℕ → Option ℕ
+  first_stranger ms = find (λ m. not (is_on members m)) ms
+
+  at_first : (place m : ℕ) (bytes : List ℕ) → place < count_in bytes → m ≡ member_in place bytes
+      → first_stranger (left_at place bytes) ≡ first_stranger (m ∷ left_at (place + 1) bytes)
+  at_first place m bytes there is =
+      ap first_stranger (left_more place bytes there ∙ ap (λ (k : ℕ). k ∷ left_at (place + 1) bytes) (sym is))
+
+  pub stranger_here : (place m : ℕ) (bytes : List ℕ) → place < count_in bytes → m ≡ member_in place bytes
+      → is_on members m ≡ false → first_stranger (left_at place bytes) ≡ Some m
+  stranger_here place m bytes there is off =
+      at_first place m bytes there is
+      ∙ cond-true (not (is_on members m)) (Some m) (first_stranger (left_at (place + 1) bytes)) (ap not off)
+
+  pub stranger_later : (place m : ℕ) (bytes : List ℕ) → place < count_in bytes → m ≡ member_in place bytes
+      → is_on members m ≡ true → first_stranger (left_at (place + 1) bytes) ≡ first_stranger (left_at place bytes)
+  stranger_later place m bytes there is on =
+      sym (at_first place m bytes there is
+      ∙ cond-false (not (is_on members m)) (Some m) (first_stranger (left_at (place + 1) bytes)) (ap not on))

@@ -1,5 +1,5 @@
 -- Places of publishers, and what a roll that is taken leaves there.
-use Rattle.std.proofs.Common.{◌≡◌, ◌≢◌, ℕ, ◌-◌, ◌≤◌, ◌==◌, List, length, replicate, get_or, Option, Some, None, refl, sym, ap, ◌∙◌, inl, inr, arith}
+use Rattle.std.proofs.Common.{◌≡◌, ◌≢◌, ℕ, ◌+◌, ◌-◌, ◌<◌, ◌≤◌, ◌==◌, List, length, replicate, get_or, Option, Some, None, refl, sym, ap, ◌∙◌, inl, inr, arith}
 use Rattle.std.specs.Prelude.{slice_set}
 use Rattle.std.specs.Array.{AllOfLen}
 use Rattle.std.proofs.Math.ListN.{length-set}
@@ -112,3 +112,20 @@ pub took_other : (register : Register) (took : Took) (bytes : List ℕ) (other :
     kept_of (after_took register took bytes) other ≡ kept_of register other
 took_other register New bytes other low another = put_other register.kept (publisher_in bytes) other (Some bytes) low another
 took_other register (Kept seq) bytes other low another = refl
+
+-- ---- places that are filled one by one
+
+pub copied_on : (copies kept : Places) (place : ℕ) (x : Option (List ℕ)) → place < length copies
+    → x ≡ get_or kept place None
+    → ((i : ℕ) → i < place → get_or copies i None ≡ get_or kept i None)
+    → (i : ℕ) → i < place + 1 → get_or (slice_set copies place x) i None ≡ get_or kept i None
+copied_on copies kept place x there is same i lt =
+    elim (cases_eq i place) [
+      | inl here ↦ ap (λ (k : ℕ). get_or (slice_set copies place x) k None) here
+          ∙ get_or-set_same copies place x None there ∙ is ∙ ap (λ (k : ℕ). get_or kept k None) (sym here)
+      | inr other ↦ get_or-set_other copies place i x None (omega arith) ∙ same i (omega arith)
+    ]
+
+pub copied_all : (copies kept : Places) → length copies ≡ length kept
+    → ((i : ℕ) → i < length kept → get_or copies i None ≡ get_or kept i None) → copies ≡ kept
+copied_all copies kept long same = ext_get_or None copies kept long (λ i h. same i (omega (arith, h, long)))

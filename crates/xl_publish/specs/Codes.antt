@@ -1,5 +1,7 @@
 -- The numbers of the refusals. Source: this project's own layout.
 use Rattle.std.specs.Prelude.{ℕ}
+use Rattle.xl_publish.specs.declared.line_refusal.LineRefusal.{LineRefusal}
+use Rattle.xl_publish.specs.declared.line_refusal.LineRefusal.TheVariants.{Digits, Stranger, Roll}
 use Rattle.xl_publish.specs.declared.refusal.RollRefusal.{RollRefusal}
 use Rattle.xl_publish.specs.declared.refusal.RollRefusal.TheVariants.{Magic, Version, Count, Short, Long, Unknown, BadTag, Member, Dates}
 
@@ -14,3 +16,9 @@ code_of (Unknown publisher) = 54
 code_of (BadTag read computed) = 55
 code_of (Member place) = 56
 code_of (Dates from until) = 57
+
+-- the number of the refusal of a line
+abbrev pub line_code_of : LineRefusal → ℕ
+line_code_of Digits = 39
+line_code_of (Roll refusal) = code_of refusal
+line_code_of (Stranger member) = 48

@@ -8,3 +8,4 @@ pub mod Orders
 pub mod Registers
 pub mod Forces
 pub mod Runs
+pub mod Texts

@@ -1,5 +1,6 @@
 ghost use Rattle.std.specs.Prelude.{◌≡◌, ◌≤◌, ◌<◌, ◌++◌, ◌∷◌, [], length};
 ghost use Rattle.xl_base.specs.Members.{most_members};
+ghost use Rattle.xl_lists.specs.Lists.{is_on};
 
 use std::marker::Model;
 use xl_base::MOST_MEMBERS;
@@ -38,7 +39,7 @@ impl RollMembers {
     }
 
     /// No numbers yet.
-    pub(crate) fn none() -> RollMembers
+    pub fn none() -> RollMembers
         ensures { result ≡ [] }
     {
         RollMembers {
@@ -48,12 +49,19 @@ impl RollMembers {
     }
 
     /// One number more.
-    pub(crate) fn push(&mut self, number: u32)
+    pub fn push(&mut self, number: u32)
         requires { length self.old < most_members }
         ensures { self.new ≡ self.old ++ number ∷ [] }
     {
         self.places[self.len] = number;
         self.len += 1;
+    }
+
+    /// Whether a number is one of these.
+    pub fn has(&self, number: u32) -> bool
+        ensures { result ≡ is_on self.now number }
+    {
+        self.as_slice().iter().any(|member| number == *member)
     }
 
     pub fn as_slice(&self) -> &[u32]

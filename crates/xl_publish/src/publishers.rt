@@ -63,6 +63,16 @@ impl Publishers {
         }
     }
 
+    /// The same keys and rolls once more.
+    pub fn copy(&self) -> Publishers
+        ensures { result ≡ self.now }
+    {
+        Publishers {
+            keys: self.keys,
+            kept: copies(&self.kept),
+        }
+    }
+
     /// Keeps the key of a publisher. It is false for a number outside 1 to 16 and for one that has a key, which then
     /// stays.
     pub fn put(&mut self, publisher: u32, key: [u8; 32]) -> bool
@@ -132,7 +142,7 @@ impl Publishers {
     }
 
     /// The first cause for which bytes aren't taken.
-    fn refusal(&self, bytes: &[u8]) -> Option<RollRefusal>
+    pub(crate) fn refusal(&self, bytes: &[u8]) -> Option<RollRefusal>
         ensures value { result ≡ refusal_of self.now.keys bytes.now }
         ensures shaped { IfNone result (IsShaped bytes.now) }
         ensures known { IfNone result (IsPublisher (publisher_in bytes.now)) }
@@ -175,7 +185,7 @@ impl Publishers {
     }
 
     /// Keeps a right roll, unless the kept one is as great.
-    fn keep(&mut self, bytes: &[u8]) -> Took
+    pub(crate) fn keep(&mut self, bytes: &[u8]) -> Took
         requires shaped { IsShaped bytes.now }
         requires known { IsPublisher (publisher_in bytes.now) }
         ensures answer { result ≡ took_of (kept_of self.old (publisher_in bytes.now)) bytes.now }
@@ -227,6 +237,25 @@ impl Publishers {
             .iter()
             .filter(|kept| stands_for(kept, member, now))
             .count()
+    }
+}
+
+fn copies(kept: &[Option<KeptRoll>; MOST_PUBLISHERS]) -> [Option<KeptRoll>; MOST_PUBLISHERS]
+    ensures { result ≡ kept.now }
+{
+    let mut copies = array::repeat(None);
+    for place in 0..MOST_PUBLISHERS {
+        copies[place] = copied(&kept[place]);
+    }
+    copies
+}
+
+fn copied(kept: &Option<KeptRoll>) -> Option<KeptRoll>
+    ensures { result ≡ kept.now }
+{
+    match kept {
+        Some(roll) => Some(KeptRoll::of(roll.as_slice())),
+        None => None,
     }
 }
 

@@ -7,8 +7,9 @@ ghost use Rattle.xl_base.specs.Sets.{comes_before};
 ghost use Rattle.xl_publish.specs.Orders.{is_below};
 ghost use Rattle.xl_publish.specs.Forces.{is_in_force};
 ghost use Rattle.xl_publish.specs.Refusing.{shape_refusal, said_refusal, first_wrong, may_follow};
+ghost use Rattle.xl_publish.specs.Texts.{stranger_in};
 
-use crate::RollRefusal;
+use crate::{RollMembers, RollRefusal};
 use byteorder::{BigEndian, ByteOrder};
 use std::cmp::Ordering;
 use xl_base::{GREATEST_NODE_NO, NodeNo, Secs, bytes_at};
@@ -98,6 +99,20 @@ pub(crate) fn names(bytes: &[u8], member: NodeNo) -> bool
         }
     }
     false
+}
+
+/// The first member that a roll names and that isn't one of these.
+pub(crate) fn stranger_in(bytes: &[u8], members: &RollMembers) -> Option<u32>
+    requires { IsShaped bytes.now }
+    ensures { result ≡ stranger_in members.now bytes.now }
+{
+    for place in 0..count_in(bytes) as usize {
+        let member = member_at(bytes, place);
+        if !members.has(member) {
+            return Some(member);
+        }
+    }
+    None
 }
 
 /// Whether a roll is in force at a second.

@@ -1,5 +1,5 @@
 -- Whom a list that publishers make has, a kept roll names.
-use Rattle.std.proofs.Common.{◌≡◌, ◌∙◌, ◌≤◌, ◌+◌, ℕ, Bool, true, false, List, [], ◌∷◌, Option, Some, None, IfSome, refl, sym, ap, subst, cond, length, filter, map, not, ◌==◌, ◌&&◌, ◌||◌, nat_eq, nat_le, arith, inl, inr}
+use Rattle.std.proofs.Common.{◌≡◌, ◌∙◌, ◌⊎◌, ◌≤◌, ◌+◌, ℕ, Bool, true, false, List, [], ◌∷◌, Option, Some, None, IfSome, refl, sym, ap, subst, cond, length, filter, map, not, ◌==◌, ◌&&◌, ◌||◌, nat_eq, nat_le, arith, inl, inr}
 use Rattle.std.specs.List.{count_by, list_all}
 use Rattle.std.proofs.lemmas.Bool.{and_from, and_parts, cases_Bool, cond-true, cond-false, or_left, or_right, true≢false}
 use Rattle.std.proofs.lemmas.Bool.Decides.{nat_tests}
@@ -75,6 +75,42 @@ peers_of_fewer me peers more fewer still met =
     let inner = and_parts b (list_all (λ m. m == me || is_peer peers m) more) outer.1 in
     and_from a (b && list_all (λ m. m == me || is_peer peers m) fewer) outer.0
     (and_from b (list_all (λ m. m == me || is_peer peers m) fewer) inner.0 (still inner.1))
+
+-- what holds of more, or of itself, holds of fewer
+all_joined : (q more fewer : ℕ → Bool) → ((m : ℕ) → fewer m ≡ true → (more m ≡ true) ⊎ (q m ≡ true)) → (xs : List ℕ)
+    → list_all q (filter more xs) ≡ true → list_all q (filter fewer xs) ≡ true
+all_joined q more fewer within [] all = refl
+all_joined q more fewer within (x ∷ xs) all =
+    elim (cases_Bool (fewer x)) [
+      | inl few ↦
+          ap (list_all q) (cond-true (fewer x) (x ∷ filter fewer xs) (filter fewer xs) few)
+          ∙ and_from (q x) (list_all q (filter fewer xs)) (this (within x few))
+          (all_joined q more fewer within xs (tail (more x) all))
+      | inr none ↦
+          ap (list_all q) (cond-false (fewer x) (x ∷ filter fewer xs) (filter fewer xs) none)
+          ∙ all_joined q more fewer within xs (tail (more x) all)
+    ]
+  where
+    tail : (b : Bool) → list_all q (cond b (x ∷ filter more xs) (filter more xs)) ≡ true
+        → list_all q (filter more xs) ≡ true
+    tail true h = (and_parts (q x) (list_all q (filter more xs)) h).1
+    tail false h = h
+
+    this : (more x ≡ true) ⊎ (q x ≡ true) → q x ≡ true
+    this (inl many) =
+        (and_parts (q x) (list_all q (filter more xs))
+        (sym (ap (list_all q) (cond-true (more x) (x ∷ filter more xs) (filter more xs) many)) ∙ all)).0
+    this (inr so) = so
+
+-- members that were named before, or are peers or me, are met as those before were
+pub met_later : (me : ℕ) (peers : List PeerSetting) (first kept : List (Option (List ℕ)))
+    → ((m : ℕ) → is_named kept m ≡ true
+    → (is_named first m ≡ true) ⊎ ((m == me || is_peer peers m) ≡ true))
+    → are_peers me (filter (is_named first) all_numbers) peers ≡ true
+    → are_peers me (filter (is_named kept) all_numbers) peers ≡ true
+met_later me peers first kept within met =
+    peers_of_fewer me peers (filter (is_named first) all_numbers) (filter (is_named kept) all_numbers)
+    (all_joined (λ m. m == me || is_peer peers m) (is_named first) (is_named kept) within all_numbers) met
 
 -- ---- the list in force
 

@@ -20,7 +20,7 @@ use Rattle.xl_settings.specs.declared.trust.Trust.{Trust}
 use Rattle.xl_settings.specs.Answers.{GivenMemory}
 use Rattle.xl_settings.specs.Keys.{least_unknown}
 use Rattle.xl_settings.specs.Lists.{members_at, met_by, published, stated_at, trust_of}
-use Rattle.xl_settings.specs.Paths.{status_at}
+use Rattle.xl_settings.specs.Paths.{rolls_path_at, status_at}
 use Rattle.xl_settings.specs.Peers.{PeerSetting, are_peers, fitting, found_peers, peers_in}
 use Rattle.xl_settings.specs.Publishers.{named_by, publishers_at, rolls_at, taken_in, threshold_at}
 use Rattle.xl_settings.specs.Runnable.{AreEverPeers, AreRunnable}
@@ -52,6 +52,7 @@ same_Ok x a b is e = same_Some a b (ap result_ok (sym is ∙ e))
 record IsMet (me : ℕ) (peers : List PeerSetting) (trust : Trust) : Type 0 where
   now_met : are_peers me trust.list.members peers ≡ true
   ever : IfSome trust.publishing (AreEverPeers me peers)
+  named : IfSome trust.publishing (λ p. are_peers me (named_by p.publishers) peers ≡ true)
   threshold : IfSome trust.publishing (λ p. (1 ≤ p.threshold) × (p.threshold ≤ 16))
 
 made_met : (me : ℕ) (peers : List PeerSetting) (taken : Taken) (threshold now : ℕ) (trust : Trust)
@@ -75,6 +76,7 @@ made_met me peers taken threshold now trust bounds met e = whole taken.all e
       now_met = force_met me peers kept (now / 1000) threshold list bounds.0 met is;
       ever = λ second. if_some (list_at kept second threshold) (λ l. are_peers me l.members peers ≡ true)
           (λ l is_l. force_met me peers kept second threshold l bounds.0 met is_l);
+      named = met;
       threshold = bounds;
     })
 
@@ -90,6 +92,7 @@ is_met me peers (Listed list) taken threshold now trust bounds met e =
     subst (IsMet me peers) (same_Some (record { list = list; publishing = None }) trust e) (record {
       now_met = met;
       ever = tt;
+      named = tt;
       threshold = tt;
     })
 is_met me peers Published taken threshold now trust bounds met e =
@@ -115,11 +118,12 @@ table_runs table now s e =
     got key.Roll (trust_of stated (taken_in table) threshold now) _ s (AreRunnable s) (λ trust trust_is e15.
     got key.Journal (journal_at table) _ s (AreRunnable s) (λ journal journal_is e16.
     got key.Status (status_at table) _ s (AreRunnable s) (λ status status_is e17.
+    got key.Rolls (rolls_path_at table) _ s (AreRunnable s) (λ looked_at looked_at_is e18.
     let met = is_met me peers stated (taken_in table) threshold now trust
     (threshold_bounded (length publishers) threshold (at key.Threshold table)
     (few_publishers table publishers publishers_is) threshold_is)
     (fits me (met_by stated (taken_in table)) (found_peers (at key.Peer table)) peers peers_is) trust_is in
-    subst AreRunnable (same_Ok _ _ s refl e17) (record {
+    subst AreRunnable (same_Ok _ _ s refl e18) (record {
       limit = usual_bounded usual_limit least_limit greatest_limit limit (at key.Limit table) (omega arith)
           (omega arith) limit_is;
       turns = usual_bounded usual_turns 1 greatest_turns turns (at key.Turns table) (omega arith)
@@ -129,11 +133,12 @@ table_runs table now s e =
       run = (usual_bounded 0 0 greatest_run_ms run_ms (at key.RunMs table) (omega arith) (omega arith) run_is).1;
       peers = met.now_met;
       ever = met.ever;
+      named = met.named;
       speak = usual_bounded usual_speak usual_speak greatest_speak speak (at key.Speak table) (omega arith)
           (omega arith) speak_is;
       threshold = met.threshold;
     }))
-    e16) e15) e14) e13) e12) e11) e10) e9) e8) e7) e6) e5) e4) e3) e2) e1) e
+    e17) e16) e15) e14) e13) e12) e11) e10) e9) e8) e7) e6) e5) e4) e3) e2) e1) e
 
 -- settings that bytes hold can be run
 pub can_run : (bytes : List ℕ) (now : ℕ) (s : Settings) → settings_of bytes now ≡ Ok s → AreRunnable s

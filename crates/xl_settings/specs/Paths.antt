@@ -1,8 +1,9 @@
 -- The path of a file. Source: this project's own format.
-use Rattle.std.specs.Prelude.{ℕ, List, [], ◌∷◌, Option, Some, None}
+use Rattle.std.specs.Prelude.{ℕ, Bool, true, false, List, [], ◌∷◌, Option, Some, None}
 use Rattle.std.specs.Option.{option_and_then}
 use Rattle.toml.specs.Data.{Data, Members, as_str}
 use Rattle.xl_settings.specs.declared.key_name.KeyName.TheVariants as key
+use Rattle.xl_settings.specs.Publishers.{has_publishers}
 use Rattle.xl_settings.specs.Values.{at, or_default}
 
 -- a path is a text that isn't empty
@@ -16,3 +17,13 @@ path_in value = option_and_then that_is_path (as_str value)
 -- where the status is told: nowhere if the key doesn't stand
 abbrev pub status_at : Members → Option (Option (List ℕ))
 status_at table = or_default None path_in (at key.Status table)
+
+-- without publishers no rolls are looked at
+abbrev pub rolls_from : Bool → Option Data → Option (Option (List ℕ))
+rolls_from publishers None = Some None
+rolls_from true (Some value) = path_in value
+rolls_from false (Some value) = None
+
+-- the text of rolls that is looked at: none if the key doesn't stand
+abbrev pub rolls_path_at : Members → Option (Option (List ℕ))
+rolls_path_at table = rolls_from (has_publishers table) (at key.Rolls table)

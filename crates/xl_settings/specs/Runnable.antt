@@ -6,6 +6,7 @@ use Rattle.xl_publish.specs.Forces.{list_at}
 use Rattle.xl_settings.specs.Limits.{greatest_turns, least_heartbeat_ms, greatest_heartbeat_ms, greatest_run_ms, usual_speak, greatest_speak}
 use Rattle.xl_settings.specs.declared.settings.Settings.{Settings}
 use Rattle.xl_settings.specs.Peers.{PeerSetting, are_peers}
+use Rattle.xl_settings.specs.Publishers.{named_by}
 
 -- whatever list the publishers' rolls make at any second, each of its members but me is a peer
 abbrev pub AreEverPeers : ℕ → List PeerSetting → Publishing → Type 0
@@ -20,6 +21,8 @@ pub record AreRunnable (s : Settings) : Type 0 where
   pub run : s.run_ms ≤ greatest_run_ms
   pub peers : are_peers s.me s.list.members s.peers ≡ true
   pub ever : IfSome s.publishing (AreEverPeers s.me s.peers)
+  -- each member but me that a kept roll names is a peer
+  pub named : IfSome s.publishing (λ p. are_peers s.me (named_by p.publishers) s.peers ≡ true)
   -- the version of its validations is 1 or 2
   pub speak : (usual_speak ≤ s.speak) × (s.speak ≤ greatest_speak)
   pub threshold : IfSome s.publishing (λ p. (1 ≤ p.threshold) × (p.threshold ≤ 16))

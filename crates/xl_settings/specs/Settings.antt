@@ -15,7 +15,7 @@ use Rattle.xl_settings.specs.declared.refusal.SettingsRefusal.TheVariants.{Lengt
 use Rattle.xl_settings.specs.declared.settings.Settings.{Settings}
 use Rattle.xl_settings.specs.Keys.{least_unknown}
 use Rattle.xl_settings.specs.Lists.{members_at, stated_at, met_by, trust_of}
-use Rattle.xl_settings.specs.Paths.{status_at}
+use Rattle.xl_settings.specs.Paths.{rolls_path_at, status_at}
 use Rattle.xl_settings.specs.Peers.{peers_in}
 use Rattle.xl_settings.specs.Publishers.{publishers_at, threshold_at, rolls_at, taken_in}
 use Rattle.xl_settings.specs.Submits.{submits_in}
@@ -74,6 +74,7 @@ in_table table now =
     needs key.Roll (trust_of stated (taken_in table) threshold now) (λ trust.
     needs key.Journal (journal_at table) (λ journal.
     needs key.Status (status_at table) (λ status.
+    needs key.Rolls (rolls_path_at table) (λ looked_at.
     Ok (record {
       me = me;
       list = trust.list;
@@ -88,7 +89,8 @@ in_table table now =
       publishing = trust.publishing;
       journal = journal;
       status = status;
-    }))))))))))))))))))
+      rolls = looked_at;
+    })))))))))))))))))))
 
 abbrev pub unless_unknown : Members → ℕ → Option (List ℕ) → Result Settings SettingsRefusal
 unless_unknown table now (Some text) = Err (Unknown text)

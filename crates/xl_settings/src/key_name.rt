@@ -20,6 +20,7 @@ pub enum KeyName {
     Roll,
     Journal,
     Status,
+    Rolls,
 }
 
 impl KeyName {
@@ -44,6 +45,7 @@ impl KeyName {
             KeyName::Roll => "roll",
             KeyName::Journal => "journal",
             KeyName::Status => "status",
+            KeyName::Rolls => "rolls",
         }
     }
 }
@@ -69,6 +71,7 @@ pub(crate) fn is_known(text: &str) -> bool
         KeyName::Roll,
         KeyName::Journal,
         KeyName::Status,
+        KeyName::Rolls,
     ];
     all.iter().any(|name| text == name.text())
 }

@@ -1,8 +1,8 @@
 //! The settings of a node, read from a TOML document: who it is, whom it trusts, its limits, what it submits, its peers,
 //! the publishers that may make its list, and where it tells how it is.
 //!
-//! It stands on xl_base, xl_io, xl_ledger, xl_lists, xl_links, xl_publish, and the kit's `toml` and `hex`. Its one
-//! contract: `read_settings` and `settings_from` answer the settings that the bytes hold at the moment of the opening,
+//! It stands on xl_base, xl_io, xl_board, xl_ledger, xl_lists, xl_links, xl_publish, and the kit's `toml` and `hex`. Its
+//! one contract: `read_settings` and `settings_from` answer the settings that the bytes hold at the moment of the opening,
 //! or the first cause for which they hold none, exactly by their definition. Or memory runs out, or a read fails.
 //! `write_refusal` writes the one line that tells such a cause.
 #![tactic(auto)]
@@ -38,7 +38,6 @@ pub use limits::{
     USUAL_HEARTBEAT_MS, USUAL_LIMIT, USUAL_TURNS,
 };
 pub use line::write_refusal;
-pub use path::FilePath;
 pub use peers::{Peer, Peers};
 pub use refusal::SettingsRefusal;
 pub use settings::Settings;

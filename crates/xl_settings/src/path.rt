@@ -1,43 +1,15 @@
 // The path of a file.
-ghost use Rattle.std.specs.Prelude.{◌≡◌, string_bytes, IfOk};
+ghost use Rattle.std.specs.Prelude.{◌≡◌, Some, IfOk};
 ghost use Rattle.toml.specs.View.{table_view, view};
-ghost use Rattle.xl_settings.specs.Paths.{status_at, path_in, that_is_path};
+ghost use Rattle.xl_settings.specs.Paths.{status_at, path_in, rolls_from, rolls_path_at, that_is_path};
 
 use crate::KeyName;
+use crate::publishers::has_publishers;
 use crate::values::value_at;
 use std::alloc::Global;
-use std::marker::Model;
 use toml::{Table, Value};
 use xl_base::OutOfMemory;
-
-/// The path of a file: a text that isn't empty. Whether a file can be opened there is not known of it.
-#[derive(Drop)]
-pub struct FilePath {
-    text: String,
-}
-
-impl Model for FilePath {
-    ghost use Rattle.std.specs.Prelude.{ℕ, List, string_bytes};
-
-    ghost Value = { List ℕ };
-
-    ghost view = { λ path. string_bytes path.text };
-}
-
-impl FilePath {
-    /// The path as it is written.
-    pub fn as_str(&self) -> &str
-        ensures { result.now ≡ self.now }
-    {
-        self.text.as_str()
-    }
-
-    fn of(text: String) -> FilePath
-        ensures { result ≡ string_bytes text }
-    {
-        FilePath { text }
-    }
-}
+use xl_board::FilePath;
 
 /// Where the status is told: nowhere if the key doesn't stand.
 pub fn status_at(alloc: Global, table: &Table) -> Result<Option<Option<FilePath>>, OutOfMemory>
@@ -46,6 +18,31 @@ pub fn status_at(alloc: Global, table: &Table) -> Result<Option<Option<FilePath>
     match value_at(table, KeyName::Status.text()) {
         Some(value) => path_in(alloc, value),
         None => Ok(Some(None)),
+    }
+}
+
+/// The text of rolls that is looked at: none if the key doesn't stand, as it may not without publishers.
+pub fn rolls_path_at(alloc: Global, table: &Table) -> Result<Option<Option<FilePath>>, OutOfMemory>
+    ensures { IfOk result (λ path. path ≡ rolls_path_at (table_view table.now)) }
+{
+    match value_at(table, KeyName::Rolls.text()) {
+        Some(value) => rolls_in(alloc, has_publishers(table), value),
+        None => Ok(Some(None)),
+    }
+}
+
+/// The path that a value is, if there are publishers.
+fn rolls_in(
+    alloc: Global,
+    publishers: bool,
+    value: &Value,
+) -> Result<Option<Option<FilePath>>, OutOfMemory>
+    ensures { IfOk result (λ path. path ≡ rolls_from publishers (Some (view value.now))) }
+{
+    if publishers {
+        path_in(alloc, value)
+    } else {
+        Ok(None)
     }
 }
 

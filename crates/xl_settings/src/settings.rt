@@ -1,5 +1,6 @@
-use crate::{FilePath, Peers};
+use crate::Peers;
 use xl_base::{Millis, NodeNo, TxIds};
+use xl_board::FilePath;
 use xl_lists::List;
 use xl_publish::Publishing;
 
@@ -32,4 +33,6 @@ pub struct Settings {
     pub journal: bool,
     /// Where its status is told, if it is.
     pub status: Option<FilePath>,
+    /// The text of rolls that is looked at while it runs, if one is. There are publishers then.
+    pub rolls: Option<FilePath>,
 }

@@ -8,7 +8,7 @@ ghost use Rattle.xl_settings.specs.Settings.{in_table, me_at, validating_at, lim
 ghost use Rattle.xl_settings.specs.Values.{at, whole, or_default};
 
 use crate::members::{members_at, stated_at};
-use crate::path::status_at;
+use crate::path::{rolls_path_at, status_at};
 use crate::peering::peers_at;
 use crate::publishers::publishers_at;
 use crate::rolls::rolls_at;
@@ -48,6 +48,7 @@ pub fn settings_in(alloc: Global, table: &Table, now: Millis) -> Result<Settings
     let trust = trust_of(stated, taken, threshold, now).ok_or(KeyName::Roll)?;
     let journal = journal_at(table).ok_or(KeyName::Journal)?;
     let status = status_at(alloc, table)?.ok_or(KeyName::Status)?;
+    let rolls = rolls_path_at(alloc, table)?.ok_or(KeyName::Rolls)?;
     Ok(Settings {
         me,
         list: trust.list,
@@ -62,6 +63,7 @@ pub fn settings_in(alloc: Global, table: &Table, now: Millis) -> Result<Settings
         publishing: trust.publishing,
         journal,
         status,
+        rolls,
     })
 }
 

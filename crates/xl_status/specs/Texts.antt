@@ -9,6 +9,8 @@ use Rattle.xl_base.specs.Statuses.{code_of}
 use Rattle.xl_core.specs.declared.report.Report.{Report}
 use Rattle.xl_store.specs.declared.status.NodeStatus.{NodeStatus}
 use Rattle.xl_status.specs.declared.hearing.Hearing.{Hearing}
+use Rattle.xl_status.specs.declared.look.Look.{Look}
+use Rattle.xl_status.specs.declared.look.Look.TheVariants.{Taken, Unread, Refused}
 use Rattle.xl_status.specs.declared.profile.Profile.{Profile}
 use Rattle.xl_status.specs.Hearings.{is_heard_in, heard_at}
 
@@ -75,6 +77,15 @@ member_line status hearing member =
 abbrev pub member_lines : NodeStatus → Hearing → List ℕ
 member_lines status hearing = flat_map (member_line status hearing) status.list.members
 
+-- what became of the last look at a text of rolls: no line was refused, it couldn't be read, or this line was the first
+-- that was refused, with this code
+abbrev pub look_line : Option Look → List ℕ
+look_line None = []
+look_line (Some Taken) = line (codes "rolls") (codes "taken")
+look_line (Some Unread) = line (codes "rolls") (codes "unread")
+look_line (Some (Refused number code)) =
+    line (codes "rolls") (codes "refused " ++ decimal number ++ space ++ decimal code)
+
 -- what an end names: the key whose bound was reached, the file that failed, or the key of the addresses of which one did
 abbrev pub named_by : Status → List ℕ
 named_by Done = codes " run_ms"
@@ -89,12 +100,13 @@ end_line None = codes "runs" ++ newline
 end_line (Some status) = line (codes "ended") (decimal (code_of status) ++ named_by status)
 
 -- all of it
-abbrev pub status_text : Profile → NodeStatus → Hearing → Option Status → List ℕ
-status_text profile status hearing ended =
+abbrev pub status_text : Profile → NodeStatus → Hearing → Option Look → Option Status → List ℕ
+status_text profile status hearing look ended =
     line (codes "xl-status") (codes "1")
     ++ profile_lines profile
     ++ core_lines status
     ++ member_lines status hearing
+    ++ look_line look
     ++ end_line ended
 
 -- what is told of a node whose core was never opened, by the moment at which it should have been

@@ -59,7 +59,15 @@ fn tells_who_is_silent(rt: HostRuntime) -> Result<(), Fail> {
     let status = status(9000)?;
     hearing.note(&status);
     let mut text = String::new(rt.alloc());
-    push_status(rt.alloc(), &mut text, &profile()?, &status, &hearing, None)?;
+    push_status(
+        rt.alloc(),
+        &mut text,
+        &profile()?,
+        &status,
+        &hearing,
+        None,
+        None,
+    )?;
     let id = "0a0a0a0a0a0a0a0a0a0a0a0a0a0a0a0a0a0a0a0a0a0a0a0a0a0a0a0a0a0a0a0a";
     let told = format!(in rt.alloc();
         "{FRONT}issues yes\nreport 6 {id}\nprefers none\nlost 0\nquorum 2\nheard 1\nheard 2\nsilent 3 5000\nruns\n"
@@ -81,6 +89,7 @@ fn tells_how_it_ended(rt: HostRuntime) -> Result<(), Fail> {
         &profile()?,
         &status,
         &Hearing::new(5000),
+        None,
         ended,
     )?;
     let told = format!(in rt.alloc();
@@ -98,5 +107,32 @@ fn tells_how_it_ended_before_it_was_opened(rt: HostRuntime) -> Result<(), Fail> 
         "xl-status 1\nme 2\nvalidating yes\nspeak 2\nturns 10000000\nheartbeat_ms 1000\nrun_ms 0\nmoment 5000\nended 6\n"
     )?;
     assert_eq!(rt; text.as_str(), told.as_str());
+    Ok(())
+}
+
+#[test]
+fn tells_which_line_of_the_rolls_was_refused(rt: HostRuntime) -> Result<(), Fail> {
+    let hearing = Hearing::new(5000);
+    let status = status(9000)?;
+    for (look, line) in [
+        (Look::Taken, "rolls taken\nruns\n"),
+        (Look::Unread, "rolls unread\nruns\n"),
+        (
+            Look::Refused { line: 3, code: 55 },
+            "rolls refused 3 55\nruns\n",
+        ),
+    ] {
+        let mut text = String::new(rt.alloc());
+        push_status(
+            rt.alloc(),
+            &mut text,
+            &profile()?,
+            &status,
+            &hearing,
+            Some(look),
+            None,
+        )?;
+        assert!(rt; text.as_str().ends_with(line));
+    }
     Ok(())
 }

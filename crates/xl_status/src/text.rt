@@ -12,6 +12,7 @@ ghost use Rattle.xl_status.specs.Texts.{
   ledger_line,
   member_line,
   member_lines,
+  look_line,
   silent_line,
   named_by,
   end_line,
@@ -20,7 +21,7 @@ ghost use Rattle.xl_status.specs.Texts.{
 };
 
 use crate::hearing::is_heard;
-use crate::{Hearing, Profile};
+use crate::{Hearing, Look, Profile};
 use std::alloc::Global;
 use std::fmt::Write;
 use xl_base::{LedgerId, Millis, NodeNo, OutOfMemory, Status};
@@ -34,15 +35,17 @@ pub fn push_status(
     profile: &Profile,
     status: &NodeStatus,
     hearing: &Hearing,
+    look: Option<Look>,
     ended: Option<Status>,
 ) -> Result<(), OutOfMemory>
     ensures { OnOk result (string_bytes text.new
-        ≡ string_bytes text.old ++ status_text profile.now status.now hearing.now ended) }
+        ≡ string_bytes text.old ++ status_text profile.now status.now hearing.now look ended) }
 {
     text.push_str("xl-status 1\n")?;
     push_profile(text, profile)?;
     push_core(alloc, text, status)?;
     push_list(text, status, hearing)?;
+    push_look(text, look)?;
     push_end(text, ended)
 }
 
@@ -185,6 +188,19 @@ fn push_silent(text: &mut String, member: NodeNo, since: Millis) -> Result<(), O
 {
     let number = member.get();
     write!(text, "silent {number} {since}\n")?;
+    Ok(())
+}
+
+/// What became of the last look at rolls, if there was one.
+fn push_look(text: &mut String, look: Option<Look>) -> Result<(), OutOfMemory>
+    ensures { OnOk result (string_bytes text.new ≡ string_bytes text.old ++ look_line look) }
+{
+    match look {
+        None => {}
+        Some(Look::Taken) => text.push_str("rolls taken\n")?,
+        Some(Look::Unread) => text.push_str("rolls unread\n")?,
+        Some(Look::Refused { line, code }) => write!(text, "rolls refused {line} {code}\n")?,
+    }
     Ok(())
 }
 

@@ -17,6 +17,7 @@ ghost use Rattle.xl_validator.specs.Validators.{Judges, between};
 ghost use Rattle.xl_words.specs.Commands.{words_of};
 
 use crate::running::write_text;
+use std::fs::Files;
 use std::sync::Wait;
 use std::thread::Threads;
 use xl_base::Status;
@@ -33,7 +34,7 @@ use xl_words::{Command, Telling, WordsFault};
 /// are those of `node`. The keeper comes back, and so does the journal of the node's store, if one was opened and isn't
 /// written, and the board on which it told how it is, if its settings name one.
 pub fn top<
-    W: Threads + Wait + Sync,
+    W: Threads + Wait + Files + Sync,
     I: Source,
     O: Sink + Send,
     K: Keeper + Drop + Send,

@@ -22,10 +22,13 @@ use Rattle.xl_heartbeat.specs.declared.ends.BeatEnd.{BeatEnd}
 use Rattle.xl_heartbeat.specs.declared.ends.Stopping.{Stopping}
 use Rattle.xl_heartbeat.specs.declared.ends.Stopping.TheVariants as stopping
 use Rattle.xl_heartbeat.specs.declared.pulse.Pulse.{Pulse}
+use Rattle.xl_heartbeat.specs.declared.standing.Standing.{Standing}
 use Rattle.xl_heartbeat.specs.declared.timing.Timing.{Timing}
 use Rattle.xl_heartbeat.specs.Outputs.{Output}
 use Rattle.xl_heartbeat.specs.Beats.{timer, reports, stop, stop_calls, taking_calls, is_over, after_beat, IsBeating}
 use Rattle.xl_heartbeat.specs.Beats as beats
+use Rattle.xl_heartbeat.specs.Looks.{IsLed}
+use Rattle.xl_heartbeat.proofs.Leading.{led_on}
 use Rattle.xl_heartbeat.specs.Relisting.{made_at, Relists}
 use Rattle.xl_workers.specs.Pairing.{Paired}
 use Rattle.xl_workers.specs.Submits.{IsSubmit}
@@ -132,17 +135,17 @@ module _ (s : Setting) (pulse : Pulse) (members : List ℕ) (history : List Entr
 -- A HEARTBEAT THAT IS OVER
 
 module _ (may_give : ℕ → Bool) (pulse : Pulse) where
-  untaken : (timing : Timing) (b : Bool) (set next : TrustedList) (now : ℕ)
+  untaken : (timing : Timing) (b : Bool) (set next : Standing) (now : ℕ)
       → (if b then beats.Over else beats.Beats set) ≡ beats.Takes now next → ⊥
   untaken timing true set next now e = cc
   untaken timing false set next now e = cc
 
   -- a timer was the last
-  timed : (cs : List Call) (phase : beats.Phase) (now : ℕ) (set : TrustedList) → IsBeating may_give pulse cs phase
+  timed : (cs : List Call) (phase : beats.Phase) (now : ℕ) (set : Standing) → IsBeating may_give pulse cs phase
       → phase ≡ beats.Takes now set
       → (earlier : List Call) × (beat : TimerAnswer) × (cs ≡ earlier ++ timer now beat ∷ [])
   timed cs phase now set IsBeating.begins e = absurd cc
-  timed cs phase now set (IsBeating.relists earlier asked n before next run may relists) e = absurd cc
+  timed cs phase now set (IsBeating.relists earlier asked n before looked look next run may looks relists) e = absurd cc
   timed cs phase now set (IsBeating.beats earlier n before beat run) e =
       let same : n ≡ now = cc in (earlier, beat, ap (λ (m : ℕ). earlier ++ timer m beat ∷ []) same)
   timed cs phase now set (IsBeating.takes earlier n before handed run) e =
@@ -157,13 +160,13 @@ module _ (may_give : ℕ → Bool) (pulse : Pulse) where
     pub parts : cs ≡ earlier ++ timer now beat ∷ reports handed ∷ []
     pub over : is_over pulse.timing now ≡ true
 
-  over_by : (b : Bool) (set : TrustedList) → (if b then beats.Over else beats.Beats set) ≡ beats.Over → b ≡ true
+  over_by : (b : Bool) (set : Standing) → (if b then beats.Over else beats.Beats set) ≡ beats.Over → b ≡ true
   over_by true set e = refl
   over_by false set e = absurd cc
 
   pub over_at : (cs : List Call) (phase : beats.Phase) → IsBeating may_give pulse cs phase → phase ≡ beats.Over → IsOverAt cs
   over_at cs phase IsBeating.begins e = absurd cc
-  over_at cs phase (IsBeating.relists earlier asked n before next run may relists) e = absurd cc
+  over_at cs phase (IsBeating.relists earlier asked n before looked look next run may looks relists) e = absurd cc
   over_at cs phase (IsBeating.beats earlier n before beat run) e = absurd cc
   over_at cs phase (IsBeating.takes earlier n before handed run) e =
       let t = timed earlier (beats.Takes n before) n before run refl in
@@ -181,19 +184,26 @@ module _ (may_give : ℕ → Bool) (pulse : Pulse) where
 
 module _ (may_give : ℕ → Bool) (pulse : Pulse) where
   abbrev IsHisBeat : List Call → Type 0
-  IsHisBeat = IsBeat pulse.publishing
+  IsHisBeat = IsBeat pulse.rolls pulse.publishing
 
   -- what there is of the beat that is cut short
   abbrev FarAt : beats.Phase → List Call → Type 0
   FarAt (beats.Beats set) cut = cut ≡ []
-  FarAt (beats.Times now next) cut = (set : TrustedList) × Relists (made_at pulse.publishing now) now set cut next
+  FarAt (beats.Times now next) cut = (set : TrustedList) × Relists (made_at next.publishing now) now set cut next.set
   FarAt (beats.Takes now next) cut =
       (set : TrustedList)
       × (asked : List Call)
       × (beat : TimerAnswer)
-      × Relists (made_at pulse.publishing now) now set asked next
+      × Relists (made_at next.publishing now) now set asked next.set
       × (cut ≡ asked ++ timer now beat ∷ [])
   FarAt beats.Over cut = cut ≡ []
+
+  -- the rolls that the publishers have by then
+  abbrev pub LedAt : beats.Phase → Type 0
+  LedAt (beats.Beats standing) = IsLed pulse.rolls pulse.publishing standing.publishing
+  LedAt (beats.Times now standing) = IsLed pulse.rolls pulse.publishing standing.publishing
+  LedAt (beats.Takes now standing) = IsLed pulse.rolls pulse.publishing standing.publishing
+  LedAt beats.Over = Unit {0}
 
   pub record Far (cs : List Call) (phase : beats.Phase) : Type 0 where
     pub whole : List (List Call)
@@ -201,17 +211,23 @@ module _ (may_give : ℕ → Bool) (pulse : Pulse) where
     pub each : AllByRecursion IsHisBeat whole
     pub is : cs ≡ flat_map (λ (beat : List Call). beat) whole ++ cut
     pub at : FarAt phase cut
+    pub led : LedAt phase
 
-  far_after : (b : Bool) (set : TrustedList) → FarAt (if b then beats.Over else beats.Beats set) []
-  far_after true set = refl
-  far_after false set = refl
+  far_after : (b : Bool) (standing : Standing) → FarAt (if b then beats.Over else beats.Beats standing) []
+  far_after true standing = refl
+  far_after false standing = refl
+
+  led_after : (b : Bool) (standing : Standing) → IsLed pulse.rolls pulse.publishing standing.publishing
+      → LedAt (if b then beats.Over else beats.Beats standing)
+  led_after true standing led = tt
+  led_after false standing led = led
 
   abbrev all_of : List (List Call) → List Call
   all_of whole = flat_map (λ (beat : List Call). beat) whole
 
   pub far : (cs : List Call) (phase : beats.Phase) → IsBeating may_give pulse cs phase → Far cs phase
-  far cs phase IsBeating.begins = record { whole = []; cut = []; each = tt; is = refl; at = refl }
-  far cs phase (IsBeating.relists earlier asked n before next run may relists) =
+  far cs phase IsBeating.begins = record { whole = []; cut = []; each = tt; is = refl; at = refl; led = IsLed.begins }
+  far cs phase (IsBeating.relists earlier asked n before looked look next run may looks relists) =
       let f = far earlier (beats.Beats before) run in
       record {
         whole = f.whole;
@@ -219,7 +235,8 @@ module _ (may_give : ℕ → Bool) (pulse : Pulse) where
         each = f.each;
         is = ap (λ (l : List Call). l ++ asked)
             (f.is ∙ ap (λ (l : List Call). all_of f.whole ++ l) f.at ∙ append-nil (all_of f.whole));
-        at = (before, relists);
+        at = (looked.set, relists);
+        led = led_on pulse.rolls pulse.publishing n before looked look looks f.led;
       }
   far cs phase (IsBeating.beats earlier n before beat run) =
       let f = far earlier (beats.Times n before) run in
@@ -230,14 +247,17 @@ module _ (may_give : ℕ → Bool) (pulse : Pulse) where
         is = ap (λ (l : List Call). l ++ timer n beat ∷ []) f.is
             ∙ append_assoc (all_of f.whole) f.cut (timer n beat ∷ []);
         at = (f.at.0, f.cut, beat, f.at.1, refl);
+        led = f.led;
       }
   far cs phase (IsBeating.takes earlier n before handed run) =
       let f = far earlier (beats.Takes n before) run in
       let beat = f.cut ++ reports handed ∷ [] in
       let is_beat : IsHisBeat beat = record {
+        led = before.publishing;
+        is_led = f.led;
         now = n;
         set = f.at.0;
-        next = before;
+        next = before.set;
         asked = f.at.1;
         beat = f.at.2;
         handed = handed;
@@ -255,18 +275,21 @@ module _ (may_give : ℕ → Bool) (pulse : Pulse) where
             ∙ sym (flat_map-append (λ (l : List Call). l) f.whole (beat ∷ []))
             ∙ sym (append-nil (all_of (f.whole ++ beat ∷ [])));
         at = far_after (is_over pulse.timing n) before;
+        led = led_after (is_over pulse.timing n) before f.led;
       }
 
   -- the beat that was cut short, as it could go on
-  pub cut_short : (phase : beats.Phase) (cut : List Call) → FarAt phase cut
+  pub cut_short : (phase : beats.Phase) (cut : List Call) → FarAt phase cut → LedAt phase
       → (cut ≡ []) ⊎ ((missing : List Call) × IsHisBeat (cut ++ missing))
-  cut_short (beats.Beats set) cut at = inl at
-  cut_short (beats.Times now next) cut at = inr (
+  cut_short (beats.Beats standing) cut at led = inl at
+  cut_short (beats.Times now next) cut at led = inr (
     timer now answered.Nothing ∷ reports [] ∷ [],
     record {
+      led = next.publishing;
+      is_led = led;
       now = now;
       set = at.0;
-      next = next;
+      next = next.set;
       asked = cut;
       beat = answered.Nothing;
       handed = [];
@@ -274,12 +297,14 @@ module _ (may_give : ℕ → Bool) (pulse : Pulse) where
       is = refl;
     },
   )
-  cut_short (beats.Takes now next) cut at = inr (
+  cut_short (beats.Takes now next) cut at led = inr (
     reports [] ∷ [],
     record {
+      led = next.publishing;
+      is_led = led;
       now = now;
       set = at.0;
-      next = next;
+      next = next.set;
       asked = at.1;
       beat = at.2;
       handed = [];
@@ -287,7 +312,7 @@ module _ (may_give : ℕ → Bool) (pulse : Pulse) where
       is = ap (λ (l : List Call). l ++ reports [] ∷ []) at.4 ∙ append_assoc at.1 (timer now at.2 ∷ []) (reports [] ∷ []);
     },
   )
-  cut_short beats.Over cut at = inl at
+  cut_short beats.Over cut at led = inl at
 
 no_timer : (calls : List Call) (place now : ℕ) (b : TimerAnswer) → slice_get calls place ≡ Some (timer now b)
     → HoldsAt IsOther calls place → ⊥
@@ -300,7 +325,7 @@ pub beats_of : (s : Setting) (pulse : Pulse) (members : List ℕ) (history : Lis
     (submits : List ℕ) (ended : BeatEnd) (last : Ending) (old new : Output)
     (sub : SubmitPart s history ids submits)
     (out : SharedOut s pulse members history submits ended last old new)
-    → AreBeats pulse.publishing (calls_of s.start history)
+    → AreBeats pulse.rolls pulse.publishing (calls_of s.start history)
 beats_of s pulse members history ids submits ended last old new sub out =
     let all = calls_of s.start history in
     let f = far s.may_give pulse out.calls out.beating.phase out.beating.run in
@@ -313,7 +338,7 @@ beats_of s pulse members history ids submits ended last old new sub out =
       stop = ended.stop;
       places = out.beat;
       each = f.each;
-      last = cut_short s.may_give pulse out.beating.phase f.cut f.at;
+      last = cut_short s.may_give pulse out.beating.phase f.cut f.at f.led;
       stand = subst (λ (l : List Call). map (slice_get all) out.beat ≡ map Some l) parts out.beating.stand.at;
       rise = subst (λ (n : ℕ). Rise 0 out.beat n) (sym (length_calls s.start history)) out.beating.stand.rise;
       timers = λ place now b is. ⊎_elim
@@ -326,7 +351,7 @@ beats_of s pulse members history ids submits ended last old new sub out =
 -- and of one that has submits alone
 pub no_beats : (s : Setting) (pulse : Pulse) (history : List Entry) (ids : List TxId) (submits : List ℕ)
     → SubmitPart s history ids submits → submits ≡ all_below (length history)
-    → AreBeats pulse.publishing (calls_of s.start history)
+    → AreBeats pulse.rolls pulse.publishing (calls_of s.start history)
 no_beats s pulse history ids submits sub alone =
     let all = calls_of s.start history in
     record {

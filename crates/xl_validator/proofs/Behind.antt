@@ -17,8 +17,8 @@ use Rattle.xl_audit.specs.Rereading.{SaysYes}
 use Rattle.xl_core.specs.declared.settings.Settings.{Settings as CoreSettings}
 use Rattle.xl_settings.specs.declared.settings.Settings.{Settings}
 use Rattle.xl_workers.specs.Linking.{HubSeen}
-use Rattle.xl_validator.specs.ListsSet.{IsEverKeyed}
-use Rattle.xl_validator.specs.Openings.{Task, core_settings, opening_core, task_of}
+use Rattle.xl_validator.specs.ListsSet.{AreEverKeyed}
+use Rattle.xl_validator.specs.Openings.{Task, core_settings, opening_core, rolls_of, task_of}
 use Rattle.xl_validator.specs.Preparing.{Leaves}
 use Rattle.xl_validator.specs.Recordings.{IsWritten, is_over, is_written, text_of}
 use Rattle.xl_validator.specs.Validators.{Between, Goes, HasRecorded, HasRun, IsOfNode, IsUnopened, Loads}
@@ -100,7 +100,7 @@ module _ {K O : Type 0}
     pub net : end ≡ status.NetFault → Rose old_hub.faults new_hub.faults
 
   module _ (core : Core) (task : Task) (opened : core ≡ opening_core s moment kept) (tasked : task ≡ task_of s moment)
-      (ever : IsEverKeyed s.publishing core)
+      (ever : AreEverKeyed (rolls_of s) s.publishing core)
       (loads : Loads held_by saves_of faults_of load_gives save_gives old kept loaded)
       (leaves : Leaves held_by saves_of faults_of save_gives core task may_give links at_run
       old_output new_output loaded kept_by ended ran) (same : new ≡ kept_by) where
@@ -116,7 +116,7 @@ module _ {K O : Type 0}
       goes = subst (λ (k : K). Goes held_by saves_of faults_of save_gives (opening_core s moment kept) (task_of s moment) may_give links at_run loaded k ended history) (sym same)
           (subst (λ (t : Task). Goes held_by saves_of faults_of save_gives (opening_core s moment kept) t may_give links at_run loaded kept_by ended history) tasked
           (subst (λ (c : Core). Goes held_by saves_of faults_of save_gives c task may_give links at_run loaded kept_by ended history) opened goes));
-      set = are_set s.publishing (opening_core s moment kept) history (subst (λ (c : Core). IsEverKeyed s.publishing c) opened ever)
+      set = are_set (rolls_of s) s.publishing (opening_core s moment kept) history (subst (λ (c : Core). AreEverKeyed (rolls_of s) s.publishing c) opened ever)
           (subst (λ (c : Core). IsLegal Leads c history) opened goes.legal);
     }
 

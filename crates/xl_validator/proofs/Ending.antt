@@ -205,7 +205,7 @@ module _ (s : Setting) (d : Doing) (history : List Entry) where
   run_submits e run is = submits_alone run.done run.submits e run.submitting run.by is
 
   beaten : (done : List TxId) (submits : List ℕ) (e : RunEnd) → SubmitPart s history done submits
-      → EndsBy s d history done submits e → AreBeats d.pulse.publishing H
+      → EndsBy s d history done submits e → AreBeats d.pulse.rolls d.pulse.publishing H
   beaten done submits (ends.Ran ended last) sub by =
       beats_of s d.pulse (map member_in d.targets) history done submits ended last d.old_output d.new_output sub by.1
   beaten done submits ends.NetFault sub by = no_beats s d.pulse history done submits sub by.1.all
@@ -213,7 +213,7 @@ module _ (s : Setting) (d : Doing) (history : List Entry) where
   beaten done submits ends.TooFewThreads sub by = no_beats s d.pulse history done submits sub by.1.all
   beaten done submits (ends.StoreFull n) sub by = no_beats s d.pulse history done submits sub by.1.all
 
-  pub run_beaten : (e : RunEnd) → NodeRun s d e history → AreBeats d.pulse.publishing H
+  pub run_beaten : (e : RunEnd) → NodeRun s d e history → AreBeats d.pulse.rolls d.pulse.publishing H
   run_beaten e run = beaten run.done run.submits e run.submitting run.by
 
 -- of a node by its settings

@@ -13,8 +13,8 @@ use Rattle.xl_workers.specs.declared.ends.RunEnd.{RunEnd}
 use Rattle.xl_workers.specs.Runs.{NodeRun, doing_of, status_of_end}
 use Rattle.xl_workers.specs.Sharing.{setting}
 use Rattle.xl_settings.specs.declared.settings.Settings.{Settings}
-use Rattle.xl_validator.specs.ListsSet.{IsEverKeyed}
-use Rattle.xl_validator.specs.Openings.{Task, opening_core, task_of}
+use Rattle.xl_validator.specs.ListsSet.{AreEverKeyed}
+use Rattle.xl_validator.specs.Openings.{Task, opening_core, rolls_of, task_of}
 use Rattle.xl_validator.specs.Preparing.{Leaves}
 use Rattle.xl_validator.specs.Recordings.{is_over}
 use Rattle.xl_validator.specs.Validators.{Between, Goes, HasRun, IsOfNode, Loads}
@@ -107,7 +107,7 @@ module _ {K : Type 0}
     (old loaded new : K) (end : Status) (s : Settings) (moment kept : ℕ) where
   -- a node that ran over the core of these settings ran by them
   pub ran_by : (core : Core) (task : Task) (journal : Option (List Entry)) → core ≡ opening_core s moment kept
-      → task ≡ task_of s moment → IsEverKeyed s.publishing core
+      → task ≡ task_of s moment → AreEverKeyed (rolls_of s) s.publishing core
       → Loads held_by saves_of faults_of load_gives save_gives old kept loaded
       → IfSome journal (λ history. Goes held_by saves_of faults_of save_gives
       core task may_give links outside loaded new end history)
@@ -127,6 +127,6 @@ module _ {K : Type 0}
             (λ (c : Core). Goes held_by saves_of faults_of save_gives
             c task may_give links outside loaded new end history)
             opened goes);
-        set = are_set s.publishing (opening_core s moment kept) history
-            (subst (λ (c : Core). IsEverKeyed s.publishing c) opened ever) legal;
+        set = are_set (rolls_of s) s.publishing (opening_core s moment kept) history
+            (subst (λ (c : Core). AreEverKeyed (rolls_of s) s.publishing c) opened ever) legal;
       })

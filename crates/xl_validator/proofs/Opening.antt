@@ -1,6 +1,7 @@
 -- What settings that can be run say of a core and its peers.
 use Rattle.std.proofs.Common.{◌≡◌, ◌≢◌, ◌<◌, ◌≤◌, ℕ, zero, suc, List, [], ◌∷◌, length, map, refl, sym, ap, ◌∙◌, subst, arith, true, false, ⊎_elim}
 use Rattle.std.specs.Prelude.{nat_eq, ◌^◌, ◌==◌, ◌||◌, IsSome, slice_index_or}
+use Rattle.std.specs.declared.option.Option.{Option}
 use Rattle.std.specs.List.{All, AllByRecursion, IsDistinct, list_all, list_any}
 use Rattle.std.proofs.lemmas.Bool.{or_cases}
 use Rattle.std.proofs.lemmas.List.{length-map}
@@ -13,6 +14,7 @@ use Rattle.xl_settings.specs.Different.{are_different}
 use Rattle.xl_settings.specs.Peers.{PeerSetting, are_peers, is_peer, setting_of}
 use Rattle.xl_base.specs.declared.ids.TxId.{TxId}
 use Rattle.xl_heartbeat.specs.declared.pulse.Pulse.{Pulse}
+use Rattle.xl_heartbeat.specs.declared.rolls_text.RollsText.{RollsText}
 use Rattle.xl_settings.specs.declared.settings.Settings.{Settings}
 use Rattle.xl_settings.specs.Runnable.{AreRunnable}
 use Rattle.xl_core.specs.Core.{Core}
@@ -21,7 +23,7 @@ use Rattle.xl_workers.specs.declared.plan.Plan.{Plan}
 use Rattle.xl_links.specs.Ways.{Target}
 use Rattle.xl_workers.specs.Linking.{contact_of, target_of}
 use Rattle.xl_validator.specs.Contacts.{IsNumber}
-use Rattle.xl_validator.specs.Openings.{Task, number_of, target_at, task_of, pulse_of}
+use Rattle.xl_validator.specs.Openings.{Task, number_of, rolls_of, target_at, task_of, pulse_of}
 use Rattle.xl_validator.specs.Preparing.{IsPlan, IsReady, task_in}
 use Rattle.xl_validator.proofs.Sharing.{HasKey}
 use Rattle.xl_validator.proofs.Listing.{are_few, distinct, same_numbers}
@@ -83,13 +85,15 @@ few_contacts contacts once all =
     let same : length (map contact_of contacts) ≡ length contacts = length-map _ _ in omega (arith, few, same)
 
 -- the list that the core is opened with is copied for the heartbeat
-pub same_pulse : (s : Settings) (moment : ℕ) (list : TrustedList) → list ≡ s.list
+pub same_pulse : (s : Settings) (moment : ℕ) (list : TrustedList) → list ≡ s.list → (rolls : Option RollsText)
+    → rolls ≡ rolls_of s
     → (let p : Pulse = record {
       timing = record { opened = moment; every = s.heartbeat_ms; run = s.run_ms };
       publishing = s.publishing;
       list = list;
+      rolls = rolls;
     } in p) ≡ pulse_of s moment
-same_pulse s moment list same = rw same refl
+same_pulse s moment list same rolls looked = rw same (rw looked refl)
 
 abbrev task : ℕ → List TxId → List Target → Pulse → Task
 task turns submits targets pulse = record { turns = turns; submits = submits; targets = targets; pulse = pulse }

@@ -1,17 +1,20 @@
 -- A list whose members have keys at the opening is set wherever a legal history asks for it.
-use Rattle.std.proofs.Common.{◌≡◌, ℕ, zero, suc, ◌+◌, ◌==◌, Bool, true, false, not, List, [], ◌∷◌, map, Option, Some, None, IfSome, IsSome, refl, sym, ap, subst, ◌∙◌, inl, inr, true≢false}
-use Rattle.std.specs.Prelude.{◌&&◌, ◌/◌, find, slice_get, option_map}
+use Rattle.std.proofs.Common.{◌≡◌, ◌⊎◌, ◌≤◌, ℕ, zero, suc, ◌+◌, ◌==◌, Bool, true, false, not, List, [], ◌∷◌, map, Option, Some, None, IfSome, IsSome, refl, sym, ap, subst, ◌∙◌, inl, inr, true≢false}
+use Rattle.std.specs.Prelude.{◌&&◌, ◌||◌, ◌/◌, filter, find, slice_get, option_map}
 use Rattle.std.specs.List.{All, range_with_len}
 use Rattle.std.specs.Option.{is_none}
-use Rattle.std.proofs.lemmas.Bool.{cases_Bool, cond-false, eq-eqb}
-use Rattle.xl_lists.specs.Lists.{TrustedList, is_on}
+use Rattle.std.proofs.lemmas.Bool.{cases_Bool, cond-true, cond-false, eq-eqb, eqb-true}
+use Rattle.xl_lists.specs.Lists.{TrustedList, all_numbers, is_on}
 use Rattle.xl_tags.specs.Missing.{is_missing, lowest_missing}
 use Rattle.xl_tags.specs.Opening.{HasKeys}
 use Rattle.xl_tags.specs.Rings.{Ring, key_of}
 use Rattle.xl_tags.proofs.MissingLaws.{at_first}
 use Rattle.xl_tags.proofs.OpeningLaws.{has_key}
 use Rattle.xl_publish.specs.declared.publishing.Publishing.{Publishing}
-use Rattle.xl_publish.specs.Forces.{list_at}
+use Rattle.xl_publish.specs.Forces.{is_named, list_at}
+use Rattle.xl_publish.specs.Registers.{Register}
+use Rattle.xl_publish.specs.Texts.{after_text}
+use Rattle.xl_publish.proofs.NamingLaws.{text_names}
 use Rattle.xl_turns.specs.Histories.{IsLegal}
 use Rattle.xl_core.specs.declared.event.CoreEvent.{CoreEvent}
 use Rattle.xl_core.specs.declared.event.CoreEvent.TheVariants.{Relist}
@@ -24,11 +27,17 @@ use Rattle.xl_store.specs.declared.entry.Entry.{Entry}
 use Rattle.xl_store.specs.Calls.{Call, calls_of}
 use Rattle.xl_store.specs.Entries.{Leads, reply_of, save_of}
 use Rattle.xl_store.proofs.Peers.{peers_stay}
+use Rattle.xl_heartbeat.specs.declared.rolls_text.RollsText.{RollsText}
+use Rattle.xl_status.specs.declared.look.Look.{Look}
+use Rattle.xl_heartbeat.specs.Looks.{IsLed, IsLook, Looks, Reads}
 use Rattle.xl_heartbeat.specs.Relisting.{made_at, relist}
 use Rattle.xl_settings.specs.declared.peers.Peer.{Peer}
-use Rattle.xl_settings.specs.Peers.{setting_of, are_peers}
+use Rattle.xl_settings.specs.Peers.{PeerSetting, setting_of, are_peers, is_peer}
+use Rattle.xl_settings.specs.Publishers.{named_by}
+use Rattle.xl_settings.proofs.Naming.{force_met, if_some, met_later}
 use Rattle.xl_settings.specs.Runnable.{AreEverPeers}
-use Rattle.xl_validator.specs.ListsSet.{IsEverKeyed, AreSet}
+use Rattle.xl_validator.specs.ListsSet.{AreEverKeyed, IsEverKeyed, AreSet}
+use Rattle.xl_validator.specs.Openings.{nameable, rolls_at}
 use Rattle.xl_validator.proofs.Opening.{keyed}
 use Rattle.xl_validator.proofs.Sharing.{HasKey}
 
@@ -79,6 +88,89 @@ module _ (keys : Ring) (me : ℕ) (peers : List Peer) (own : keys.me ≡ me) (ea
       (λ list none. ap (λ (ring : Ring). option_map NoKey (lowest_missing ring list.members)) same
       ∙ ap (option_map NoKey) none)
       (ever_at publishing ever now)
+
+-- NOR OF A LIST THAT LATER ROLLS MAKE
+
+on_filtered : (p : ℕ → Bool) (ns : List ℕ) (m : ℕ) → is_on (filter p ns) m ≡ true → p m ≡ true
+on_filtered p [] m on = absurd cc
+on_filtered p (n ∷ ns) m on = elim (cases_Bool (p n)) [
+  | inr fails ↦ on_filtered p ns m (ap (λ (l : List ℕ). is_on l m) (sym (cond-false (p n) (n ∷ filter p ns) (filter p ns) fails)) ∙ on)
+  | inl passes ↦ here passes (ap (λ (l : List ℕ). is_on l m) (sym (cond-true (p n) (n ∷ filter p ns) (filter p ns) passes)) ∙ on)
+]
+  where
+    first : (same : Bool) → (m == n) ≡ same → (same || is_on (filter p ns) m) ≡ true → p n ≡ true → p m ≡ true
+    first true is e passes = ap p (eqb-true m n is) ∙ passes
+    first false is e passes = on_filtered p ns m e
+
+    here : p n ≡ true → is_on (n ∷ filter p ns) m ≡ true → p m ≡ true
+    here passes e = first (m == n) refl e passes
+
+module _ (me : ℕ) (settings : List PeerSetting) where
+  -- each member but me that a kept roll names is a peer, and a threshold is one
+  pub record AreMet (p : Publishing) : Type 0 where
+    pub named : are_peers me (named_by p.publishers) settings ≡ true
+    pub threshold : 1 ≤ p.threshold
+
+  may_be : (m : ℕ) (first : List (Option (List ℕ)))
+      → (is_named first m ≡ true) ⊎ (is_on (nameable me settings) m ≡ true)
+      → (is_named first m ≡ true) ⊎ ((m == me || is_peer settings m) ≡ true)
+  may_be m first (inl was) = inl was
+  may_be m first (inr on) = inr (on_filtered (λ k. k == me || is_peer settings k) all_numbers m on)
+
+  read_met : (old new : Register) (look : Look) → Reads (nameable me settings) old look new
+      → are_peers me (named_by old) settings ≡ true → are_peers me (named_by new) settings ≡ true
+  read_met old new look (inl unread) met =
+      subst (λ (r : Register). are_peers me (named_by r) settings ≡ true) (sym unread.1) met
+  read_met old new look (inr text) met =
+      subst (λ (r : Register). are_peers me (named_by r) settings ≡ true) (sym text.3)
+      (met_later me settings old.kept (after_text (nameable me settings) old text.0).kept
+      (λ m named. may_be m old.kept (text_names (nameable me settings) m old text.0 named)) met)
+
+  met_after : (path : List ℕ) (old new : Publishing) (look : Look)
+      → Looks (rolls_at me settings path) (Some old) (Some look) (Some new) → AreMet old → AreMet new
+  met_after path old new look is met = record {
+    named = read_met old.publishers new.publishers look is.0 met.named;
+    threshold = subst (λ (n : ℕ). 1 ≤ n) (sym is.1) met.threshold;
+  }
+
+  met_on : (path : List ℕ) (old new : Option Publishing) (look : Option Look)
+      → Looks (rolls_at me settings path) old look new → IfSome old AreMet → IfSome new AreMet
+  met_on path None new look none met = subst (λ (o : Option Publishing). IfSome o AreMet) (sym none.1) tt
+  met_on path (Some old) None None is met = absurd is
+  met_on path (Some old) None (Some look) is met = absurd is
+  met_on path (Some old) (Some new) None is met = absurd is
+  met_on path (Some old) (Some new) (Some look) is met = met_after path old new look is met
+
+  look_met : (path : Option (List ℕ)) (old new : Option Publishing) (look : Option Look)
+      → IsLook (option_map (rolls_at me settings) path) old look new
+      → IfSome old AreMet → IfSome new AreMet
+  look_met None old new look same met = subst (λ (o : Option Publishing). IfSome o AreMet) (sym same.1) met
+  look_met (Some path) old new look is met = met_on path old new look is met
+
+  led_met : (path : Option (List ℕ)) (first led : Option Publishing)
+      → IsLed (option_map (rolls_at me settings) path) first led
+      → IfSome first AreMet → IfSome led AreMet
+  led_met path first led IsLed.begins met = met
+  led_met path first led (IsLed.looks mid last look earlier is) met =
+      look_met path mid last look is (led_met path first mid earlier met)
+
+  ever_of : (p : Publishing) → AreMet p → AreEverPeers me settings p
+  ever_of p met second =
+      if_some (list_at p.publishers.kept second p.threshold) (λ list. are_peers me list.members settings ≡ true)
+      (λ list is. force_met me settings p.publishers.kept second p.threshold list met.threshold met.named is)
+
+  pub ever_led : (path : Option (List ℕ)) (first led : Option Publishing)
+      → IsLed (option_map (rolls_at me settings) path) first led
+      → IfSome first (λ p. are_peers me (named_by p.publishers) settings ≡ true)
+      → IfSome first (λ p. (1 ≤ p.threshold) × (p.threshold ≤ 16))
+      → IfSome led (AreEverPeers me settings)
+  ever_led path first led is named bounds =
+      some_both led ever_of (led_met path first led is (both first named bounds))
+    where
+      both : (o : Option Publishing) → IfSome o (λ p. are_peers me (named_by p.publishers) settings ≡ true)
+          → IfSome o (λ p. (1 ≤ p.threshold) × (p.threshold ≤ 16)) → IfSome o AreMet
+      both None n b = tt
+      both (Some p) n b = record { named = n; threshold = b.0 }
 
 -- SO A LIST IS SET
 
@@ -132,7 +224,8 @@ module _ (list : TrustedList) where
 at_some : {A : Type 0} (P : A → Type 0) (o : Option A) (x : A) → o ≡ Some x → IfSome o P → P x
 at_some {A} P o x is p = subst (λ (q : Option A). IfSome q P) is p
 
-pub are_set : (publishing : Option Publishing) (core : Core) (history : List Entry) → IsEverKeyed publishing core
-    → IsLegal Leads core history → AreSet publishing core history
-are_set publishing core history ever legal place now list refusal made at =
-    set_there list core history place now refusal legal (at_some (λ (l : TrustedList). key_refusal core.node l ≡ None) (made_at publishing now) list made (ever now)) at
+pub are_set : (rolls : Option RollsText) (first : Option Publishing) (core : Core) (history : List Entry)
+    → AreEverKeyed rolls first core → IsLegal Leads core history → AreSet rolls first core history
+are_set rolls first core history ever legal led place now list refusal is_led made at =
+    set_there list core history place now refusal legal
+    (at_some (λ (l : TrustedList). key_refusal core.node l ≡ None) (made_at led now) list made (ever led is_led now)) at

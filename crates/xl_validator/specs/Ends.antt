@@ -15,12 +15,14 @@ use Rattle.xl_store.specs.declared.entry.Entry.{Entry}
 use Rattle.xl_store.specs.Calls.{Call, calls_of, Rise}
 use Rattle.xl_heartbeat.specs.declared.ends.Stopping.{Stopping}
 use Rattle.xl_heartbeat.specs.Beats.{timer, reports, stop_calls}
+use Rattle.xl_heartbeat.specs.declared.rolls_text.RollsText.{RollsText}
+use Rattle.xl_heartbeat.specs.Looks.{IsLed}
 use Rattle.xl_heartbeat.specs.Relisting.{made_at, Relists}
 use Rattle.xl_settings.specs.declared.settings.Settings.{Settings}
 use Rattle.xl_settings.specs.Settings.{settings_of}
 use Rattle.xl_workers.specs.Pairing.{Paired}
 use Rattle.xl_workers.specs.Submits.{IsSubmit}
-use Rattle.xl_validator.specs.Openings.{opening_core}
+use Rattle.xl_validator.specs.Openings.{opening_core, rolls_of}
 
 -- A node ran by the settings that the input held at a moment that the clock may give, and this is so of them, of that
 -- moment and of the calls of its history, which is the journal if that is handed back
@@ -59,16 +61,18 @@ EndsFull s moment calls = length calls ≡ s.turns
 abbrev pub AreSubmits : (ℕ → Bool) → Settings → ℕ → List Call → Type 0
 AreSubmits may_give s moment calls = Paired (IsSubmit may_give) s.submit calls
 
--- one whole beat: the publishers' list is set if it is another than the one last set, the moment is told, and reports
--- are taken
-pub record IsBeat (publishing : Option Publishing) (calls : List Call) : Type 0 where
+-- one whole beat: the list of the publishers, by the rolls that they have then, is set if it is another than the one
+-- last set, the moment is told, and reports are taken
+pub record IsBeat (rolls : Option RollsText) (first : Option Publishing) (calls : List Call) : Type 0 where
+  pub led : Option Publishing
+  pub is_led : IsLed rolls first led
   pub now : ℕ
   pub set : TrustedList
   pub next : TrustedList
   pub asked : List Call
   pub beat : TimerAnswer
   pub handed : List Report
-  pub relists : Relists (made_at publishing now) now set asked next
+  pub relists : Relists (made_at led now) now set asked next
   pub is : calls ≡ asked ++ timer now beat ∷ reports handed ∷ []
 
 -- the place is one of these
@@ -77,19 +81,19 @@ StandsIn place [] = ⊥
 StandsIn place (p ∷ places) = (place ≡ p) ⊎ StandsIn place places
 
 -- All timers are those of beats, of which only the last may be cut short, and behind which the one stop comes
-pub record AreBeats (publishing : Option Publishing) (calls : List Call) : Type 0 where
+pub record AreBeats (rolls : Option RollsText) (first : Option Publishing) (calls : List Call) : Type 0 where
   pub whole : List (List Call)
   pub cut : List Call
   pub stop : Stopping
   pub places : List ℕ
-  pub each : AllByRecursion (IsBeat publishing) whole
-  pub last : (cut ≡ []) ⊎ ((missing : List Call) × IsBeat publishing (cut ++ missing))
+  pub each : AllByRecursion (IsBeat rolls first) whole
+  pub last : (cut ≡ []) ⊎ ((missing : List Call) × IsBeat rolls first (cut ++ missing))
   pub stand : map (slice_get calls) places ≡ map Some (flat_map (λ (beat : List Call). beat) whole ++ cut ++ stop_calls stop)
   pub rise : Rise 0 places (length calls)
   pub timers : (place now : ℕ) (beat : TimerAnswer) → slice_get calls place ≡ Some (timer now beat) → StandsIn place places
 
 abbrev pub HasBeats : Settings → ℕ → List Call → Type 0
-HasBeats s moment calls = AreBeats s.publishing calls
+HasBeats s moment calls = AreBeats (rolls_of s) s.publishing calls
 
 -- a count of faults didn't rise
 abbrev pub IsQuiet : ℕ → ℕ → Type 0

@@ -1,14 +1,17 @@
 -- What settings say of the core that a node is opened with, and of what is run with it. Source: this project's own.
-use Rattle.std.specs.Prelude.{ℕ, List, map, fold}
+use Rattle.std.specs.Prelude.{ℕ, ◌==◌, ◌||◌, List, filter, map, fold, option_map}
+use Rattle.std.specs.declared.option.Option.{Option}
 use Rattle.xl_base.specs.declared.ids.TxId.{TxId}
 use Rattle.xl_links.specs.Ways.{Target}
 use Rattle.xl_tags.specs.Rings.{Ring, no_keys, with_key}
 use Rattle.xl_core.specs.declared.settings.Settings.{Settings as CoreSettings}
 use Rattle.xl_core.specs.Core.{Core, with_queues}
 use Rattle.xl_core.specs.Node.{opened_node}
+use Rattle.xl_lists.specs.Lists.{all_numbers}
 use Rattle.xl_heartbeat.specs.declared.pulse.Pulse.{Pulse}
+use Rattle.xl_heartbeat.specs.declared.rolls_text.RollsText.{RollsText}
 use Rattle.xl_settings.specs.declared.settings.Settings.{Settings}
-use Rattle.xl_settings.specs.Peers.{PeerSetting}
+use Rattle.xl_settings.specs.Peers.{PeerSetting, is_peer}
 
 abbrev pub with_peer : Ring → PeerSetting → Ring
 with_peer ring peer = with_key ring peer.number peer.key
@@ -31,12 +34,24 @@ core_settings s = record {
 abbrev pub opening_core : Settings → ℕ → ℕ → Core
 opening_core s moment kept = with_queues (opened_node (core_settings s) moment kept)
 
+-- the members that a roll may name while it runs: me and its peers
+abbrev pub nameable : ℕ → List PeerSetting → List ℕ
+nameable me peers = filter (λ m. m == me || is_peer peers m) all_numbers
+
+abbrev pub rolls_at : ℕ → List PeerSetting → List ℕ → RollsText
+rolls_at me peers path = record { path = path; members = nameable me peers }
+
+-- the text of rolls that is looked at, if the settings name one
+abbrev pub rolls_of : Settings → Option RollsText
+rolls_of s = option_map (rolls_at s.me s.peers) s.rolls
+
 -- what its heartbeat goes by: the list that was last set is at first the one that the core is opened with
 abbrev pub pulse_of : Settings → ℕ → Pulse
 pulse_of s moment = record {
   timing = record { opened = moment; every = s.heartbeat_ms; run = s.run_ms };
   publishing = s.publishing;
   list = s.list;
+  rolls = rolls_of s;
 }
 
 abbrev pub number_of : PeerSetting → ℕ

@@ -39,6 +39,7 @@ module _ {D : Type 0} (stands_on : D → Option (Option (List ℕ))) (stands_at 
     pub profile : first.profile ≡ profile_of s
     pub hearing : first.hearing ≡ unheard_since moment
     pub due : first.due ≡ moment
+    pub look : first.look ≡ None
 
   abbrev pub IsOpenedAt : Option (List ℕ) → Option (Bulletin D) → Type 0
   IsOpenedAt None first = first ≡ None

@@ -24,7 +24,7 @@ use Rattle.xl_workers.specs.Sharing.{setting}
 use Rattle.xl_core.specs.Core.{Core}
 use Rattle.xl_validator.specs.Ends.{EndsByTime, EndsFull, HasBeats}
 use Rattle.xl_validator.specs.ListsSet.{AreSet}
-use Rattle.xl_validator.specs.Openings.{Task, opening_core, task_of}
+use Rattle.xl_validator.specs.Openings.{Task, opening_core, rolls_of, task_of}
 use Rattle.xl_validator.specs.Recordings.{IsWritten, is_over, is_written, text_of}
 
 -- of the line that tells a refusal a front is written, and with the status of a refusal all of it
@@ -104,7 +104,7 @@ module _ {K : Type 0}
     pub loads : Loads old kept loaded
     pub goes : Goes held_by saves_of faults_of save_gives
         (opening_core s moment kept) (task_of s moment) may_give links outside loaded new end history
-    pub set : AreSet s.publishing (opening_core s moment kept) history
+    pub set : AreSet (rolls_of s) s.publishing (opening_core s moment kept) history
 
   -- a node ran by the settings that the input held at the moment of its opening, and its journal isn't written
   abbrev pub IsNodeRun : Option (List ℕ) → ℕ → (ℕ → Bool) → (ℕ → Option Wire) → Between → K → K → Status → List Entry

@@ -16,6 +16,7 @@ use crate::preparing::{Judged, Prepared, prepare};
 use crate::recording::{recorded, recording_of};
 use crate::run::Run;
 use crate::telling::{bulletin_of, status_left, tell_end};
+use std::fs::Files;
 use std::sync::Wait;
 use std::thread::Threads;
 use xl_base::Status;
@@ -76,7 +77,7 @@ fn left_by<K: Drop>(ran: Result<Ran<Trie, K>, Spared<Trie, K>>) -> (Run<K>, Opti
 
 /// Opens a node by its settings, at the moment at which they were judged, and runs it.
 fn start<
-    W: Threads + Wait + Sync,
+    W: Threads + Wait + Files + Sync,
     O: Sink + Send,
     K: Keeper + Drop + Send,
     H: Hub,
@@ -152,7 +153,7 @@ fn start<
 ///
 /// Refused settings end it with `InputRefused` and the one line that names the key.
 pub fn validator<
-    W: Threads + Wait + Sync,
+    W: Threads + Wait + Files + Sync,
     I: Source,
     O: Sink + Send,
     K: Keeper + Drop + Send,

@@ -12,6 +12,7 @@ mod command;
 mod contacts;
 mod ended;
 mod keys;
+mod naming;
 mod preparing;
 mod recording;
 mod run;

@@ -1,17 +1,19 @@
 // What a node is opened with, and what it is to do.
-ghost use Rattle.std.specs.Prelude.{◌≡◌, ◌≤◌, IfOk};
+ghost use Rattle.std.specs.Prelude.{◌≡◌, ◌≤◌, IfOk, option_map};
 ghost use Rattle.xl_base.specs.Moments.{greatest_millis};
 ghost use Rattle.xl_settings.specs.Runnable.{AreRunnable};
-ghost use Rattle.xl_validator.specs.ListsSet.{IsEverKeyed};
-ghost use Rattle.xl_validator.specs.Openings.{opening_core, task_of};
+ghost use Rattle.xl_validator.specs.ListsSet.{AreEverKeyed};
+ghost use Rattle.xl_validator.specs.Openings.{opening_core, rolls_at, rolls_of, task_of};
 ghost use Rattle.xl_validator.specs.Preparing.{IsPlan, IsReady, task_in};
 
 use crate::contacts::contacts_of;
 use crate::keys::keys_of;
+use crate::naming::nameable;
 use std::alloc::Global;
-use xl_base::{Millis, OutOfMemory, Seq, TxIds};
+use xl_base::{Millis, NodeNo, OutOfMemory, Seq, TxIds};
+use xl_board::FilePath;
 use xl_core::Core;
-use xl_heartbeat::{Pulse, Timing};
+use xl_heartbeat::{Pulse, RollsText, Timing};
 use xl_settings::{Peers, Settings};
 use xl_trie::Trie;
 use xl_workers::Plan;
@@ -39,7 +41,8 @@ pub(crate) fn prepare(alloc: Global, judged: Judged, kept: Seq) -> Result<Prepar
     ensures task { IfOk result (λ prepared. task_in prepared.plan ≡ task_of judged.settings judged.now) }
     ensures ready { IfOk result IsReady }
     ensures keeps { IfOk result (λ prepared. prepared.plan.keeps ≡ judged.settings.journal) }
-    ensures keyed { IfOk result (λ prepared. IsEverKeyed judged.settings.publishing prepared.core) }
+    ensures keyed { IfOk result (λ prepared.
+        AreEverKeyed (rolls_of judged.settings) judged.settings.publishing prepared.core) }
 {
     let Judged { settings, now } = judged;
     let Settings {
@@ -56,7 +59,9 @@ pub(crate) fn prepare(alloc: Global, judged: Judged, kept: Seq) -> Result<Prepar
         publishing,
         journal,
         status: _,
+        rolls,
     } = settings;
+    let rolls = rolls_text_of(me, &peers, rolls);
     let keys = keys_of(me, peers.as_slice());
     let pulse = Pulse {
         timing: Timing {
@@ -66,6 +71,7 @@ pub(crate) fn prepare(alloc: Global, judged: Judged, kept: Seq) -> Result<Prepar
         },
         publishing,
         list: list.copy(),
+        rolls,
     };
     let plan = plan_of(alloc, turns, journal, submit, peers, pulse)?;
     let settings = xl_core::Settings {
@@ -79,6 +85,19 @@ pub(crate) fn prepare(alloc: Global, judged: Judged, kept: Seq) -> Result<Prepar
     match Core::open(alloc, settings, now, kept) {
         Ok(core) => Ok(Prepared { core, plan }),
         Err(_) => Err(OutOfMemory),
+    }
+}
+
+/// The text of rolls that is looked at, if one is named.
+fn rolls_text_of(me: NodeNo, peers: &Peers, path: Option<FilePath>) -> Option<RollsText>
+    ensures { result ≡ option_map (rolls_at me peers.now) path }
+{
+    match path {
+        Some(path) => Some(RollsText {
+            path,
+            members: nameable(me, peers),
+        }),
+        None => None,
     }
 }
 

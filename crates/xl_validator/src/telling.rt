@@ -37,6 +37,7 @@ pub(crate) fn bulletin_of<P: Boards>(
             profile: profile_of(settings),
             hearing: Hearing::new(now),
             due: now,
+            look: None,
         })),
         Err(why) => Err(why),
     }

@@ -19,6 +19,7 @@ use crate::plan::Plan;
 use crate::starting::can_run;
 use crate::submitting::submit_all;
 use crate::worker::run;
+use std::fs::Files;
 use std::sync::Wait;
 use std::thread::Threads;
 use xl_board::Board;
@@ -65,7 +66,7 @@ fn end_of(end: StoreEnd) -> RunEnd
 /// Submits the ids, opens the links, and has a worker for each peer beside the heartbeat. When all have ended, their
 /// passes are joined and the last reports are taken. If there aren't threads for all of them, nothing is done.
 pub(crate) fn live<
-    W: Threads + Wait + Sync,
+    W: Threads + Wait + Files + Sync,
     B: Branch + Drop + Send,
     K: Keeper + Drop + Send,
     H: Hub,

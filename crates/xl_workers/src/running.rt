@@ -19,6 +19,7 @@ use crate::ends::RunEnd;
 use crate::living::live;
 use crate::plan::Plan;
 use std::alloc::Global;
+use std::fs::Files;
 use std::sync::Wait;
 use std::thread::Threads;
 use xl_board::Board;
@@ -45,7 +46,7 @@ pub struct Ran<B: Branch, K> {
 /// some members alone, and not say so. The members are peers of the core, and none stands twice. If there was no memory for the store, core and keeper
 /// come back, and nothing happened. What it leaves tells how every other run ended.
 pub fn node<
-    W: Threads + Wait + Sync,
+    W: Threads + Wait + Files + Sync,
     B: Branch + Drop + Send,
     K: Keeper + Drop + Send,
     H: Hub,

@@ -7,6 +7,7 @@ ghost use Rattle.xl_heartbeat.specs.Bulletins.{ToldIf};
 ghost use Rattle.xl_workers.specs.Serving.{IsReady, HasServed, AreReady, HaveServed};
 
 use crate::linking::Peer;
+use std::fs::Files;
 use std::sync::Wait;
 use std::thread;
 use std::thread::Threads;
@@ -63,7 +64,7 @@ pub(crate) fn work_all<
 }
 
 /// The heartbeat, which tells on the bulletin if there is one.
-fn beat_on<W: Wait, B: Branch + Drop, K: Keeper + Drop, O: Sink, C: Clock, D: Board + Drop>(
+fn beat_on<W: Wait + Files, B: Branch + Drop, K: Keeper + Drop, O: Sink, C: Clock, D: Board + Drop>(
     rt: &W,
     store: &Store<B, K>,
     clock: &C,
@@ -86,7 +87,7 @@ fn beat_on<W: Wait, B: Branch + Drop, K: Keeper + Drop, O: Sink, C: Clock, D: Bo
 
 /// All workers beside the heartbeat, until all have ended.
 pub(crate) fn run<
-    W: Threads + Wait + Sync,
+    W: Threads + Wait + Files + Sync,
     B: Branch + Drop + Send,
     K: Keeper + Drop + Send,
     L: Link + Send,

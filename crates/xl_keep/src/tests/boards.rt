@@ -46,3 +46,22 @@ fn a_path_is_opened_if_a_text_can_stand_there(rt: HostRuntime) -> Result<(), Fai
     fs::remove_dir_all(&rt, folder.as_str())?;
     Ok(())
 }
+
+#[test]
+fn a_text_is_read_whole_or_not_at_all(rt: HostRuntime) -> Result<(), Fail> {
+    let folder = folder(&rt, "xl_keep_texts")?;
+    let path = format!(in rt.alloc(); "{folder}/rolls")?;
+    let path = path.as_str();
+    let mut room = [0; 8];
+    assert!(rt; read_text(&rt, path, &mut room) == Err(Failed));
+    for text in ["", "one", "seventy"] {
+        fs::write(&rt, path, text)?;
+        assert!(rt; read_text(&rt, path, &mut room) == Ok(text.len()));
+        assert!(rt; &room[..text.len()] == text.as_bytes());
+    }
+    fs::write(&rt, path, "eightees")?;
+    assert!(rt; read_text(&rt, path, &mut room) == Err(Failed));
+    assert!(rt; read_text(&rt, folder.as_str(), &mut room) == Err(Failed));
+    fs::remove_dir_all(&rt, folder.as_str())?;
+    Ok(())
+}

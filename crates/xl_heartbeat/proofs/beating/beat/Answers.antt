@@ -18,7 +18,8 @@ loop-init g c = record {
       let start = start_of c.args.store.now in
       let old = known c.args.pass.now in
       let before = output (g.O.Sink.held c.args.sink.now) (g.O.Sink.faults c.args.sink.now) in
-      subst (λ set. Beating start may c.args.pulse.now old before (Phase.Beats set) old before) (sym c.copy.ensures)
+      subst (λ standing. Beating start may c.args.pulse.now old before (Phase.Beats standing) old before)
+      (sym c.of.ensures)
       (beating_starts start (turns_of c.args.store.now) may c.args.pulse.now old before);
   told = untold g.D.Board.show_gives (start_of c.args.store.now) c.args.bulletin (known c.args.pass.now).seen;
 }

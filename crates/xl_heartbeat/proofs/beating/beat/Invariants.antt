@@ -10,7 +10,8 @@ abbrev pub invariant-loop : goal.invariant-loop
 invariant-loop g l = record {
   pass : IsOf l.store l.pass;
   far : Beating (start_of l.store) (g.C.Clock.may_give l.clock) l.pulse
-      (known l.initial.pass) (output (g.O.Sink.held l.initial.sink) (g.O.Sink.faults l.initial.sink)) (Beats l.progress.set)
+      (known l.initial.pass) (output (g.O.Sink.held l.initial.sink) (g.O.Sink.faults l.initial.sink))
+      (Beats l.progress.standing)
       (known l.pass) (output (g.O.Sink.held l.sink) (g.O.Sink.faults l.sink));
   told : ToldIf g.D.Board.show_gives (start_of l.store) l.fn.bulletin (known l.pass).seen l.progress.bulletin;
 }

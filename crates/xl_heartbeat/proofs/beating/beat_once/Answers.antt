@@ -6,7 +6,7 @@ use Rattle.xl_heartbeat.specs.Outputs.{output}
 use Rattle.xl_heartbeat.specs.Beats.{Phase}
 use Rattle.xl_heartbeat.specs.Going.{Beaten, Follows, after_reports}
 use Rattle.xl_heartbeat.proofs.Pulses.{relisted, timed, taken, not_called}
-use Rattle.xl_heartbeat.proofs.Telling.{still_told}
+use Rattle.xl_heartbeat.proofs.Telling.{noted, still_told}
 use Rattle.xl_heartbeat.proofs.beating.beat_once.Goals as goal
 
 pub returns-clause-follows : goal.returns-clause-follows
@@ -16,19 +16,21 @@ returns-clause-follows g c k0 o0 b =
     let turns = turns_of c.args.store.now in
     let pulse = c.args.pulse.now in
     let now = c.now-now.result in
-    let set = c.relist_at.new.set in
+    let standing = c.relist_at.new.standing in
     let before = output (g.O.Sink.held c.args.sink.now) (g.O.Sink.faults c.args.sink.now) in
     let after = output (g.O.Sink.held c.take_and_tell-taken.new.sink) (g.O.Sink.faults c.take_and_tell-taken.new.sink) in
     let far = relisted start turns may pulse k0 o0 (known c.args.pass.now) (known c.relist_at.new.pass) before now
-    c.args.progress.now.set set c.now-now.ensures.may c.in-Ok.ensures.relisted b in
+    c.args.progress.now.standing c.look_at-look.new.standing standing c.look_at-look.result c.now-now.ensures.may c.look_at-look.ensures
+    c.in-Ok.ensures.relisted b in
     let called = c.in-Ok-timer.ensures.called in
-    let due = timed start turns may pulse k0 o0 (known c.relist_at.new.pass) (known c.timer.new.pass) before now set
+    let due = timed start turns may pulse k0 o0 (known c.relist_at.new.pass) (known c.timer.new.pass) before now
+    standing
     c.in-Ok-timer.field-0 called.made called.later far in
     let end = c.take_and_tell-taken.result in
-    subst (λ o. Follows start turns may pulse k0 o0 set o (known c.take_and_tell-taken.new.pass) after)
+    subst (λ o. Follows start turns may pulse k0 o0 standing o (known c.take_and_tell-taken.new.pass) after)
     (sym (c.after_reports.ensures ∙ ap (after_reports end) c.is_over.ensures))
     (taken start turns may pulse k0 o0 end (known c.timer.new.pass) (known c.take_and_tell-taken.new.pass)
-    before after now set due c.take_and_tell-taken.ensures.takes)
+    before after now standing due c.take_and_tell-taken.ensures.takes)
 
 pub returns-in-Err-timer-clause-follows : goal.returns-in-Err-timer-clause-follows
 returns-in-Err-timer-clause-follows g c k0 o0 b =
@@ -37,13 +39,15 @@ returns-in-Err-timer-clause-follows g c k0 o0 b =
     let turns = turns_of c.args.store.now in
     let pulse = c.args.pulse.now in
     let now = c.now-now.result in
-    let set = c.relist_at.new.set in
+    let standing = c.relist_at.new.standing in
     let before = output (g.O.Sink.held c.args.sink.now) (g.O.Sink.faults c.args.sink.now) in
     let far = relisted start turns may pulse k0 o0 (known c.args.pass.now) (known c.relist_at.new.pass) before now
-    c.args.progress.now.set set c.now-now.ensures.may c.in-Ok.ensures.relisted b in
+    c.args.progress.now.standing c.look_at-look.new.standing standing c.look_at-look.result c.now-now.ensures.may c.look_at-look.ensures
+    c.in-Ok.ensures.relisted b in
     subst (λ e. Beaten start turns may pulse k0 o0 e (known c.timer.new.pass) before)
     (sym c.ending_of-in-Err-timer.ensures)
-    (not_called c.args.store.now may pulse k0 o0 (Phase.Times now set) tt c.relist_at.new.pass c.timer.new.pass before
+    (not_called c.args.store.now may pulse k0 o0 (Phase.Times now standing) tt c.relist_at.new.pass
+    c.timer.new.pass before
     c.in-Err-timer.end far c.in-Err-timer.ensures.refused)
 
 pub returns-in-Err-clause-follows : goal.returns-in-Err-clause-follows
@@ -54,31 +58,40 @@ returns-in-Err-clause-follows g c k0 o0 b =
     let pulse = c.args.pulse.now in
     let before = output (g.O.Sink.held c.args.sink.now) (g.O.Sink.faults c.args.sink.now) in
     subst (λ e. Beaten start turns may pulse k0 o0 e (known c.relist_at.new.pass) before) (sym c.ending_of.ensures)
-    (not_called c.args.store.now may pulse k0 o0 (Phase.Beats c.args.progress.now.set) tt c.args.pass.now c.relist_at.new.pass
+    (not_called c.args.store.now may pulse k0 o0 (Phase.Beats c.args.progress.now.standing) tt c.args.pass.now
+    c.relist_at.new.pass
     before c.in-Err.end b c.in-Err.ensures.refused)
 
 pub returns-clause-told : goal.returns-clause-told
 returns-clause-told g c first t =
     let gives = g.D.Board.show_gives in
     let start = start_of c.args.store.now in
-    let bulletin = c.args.progress.now.bulletin in
+    let bulletin = c.note_look.new.bulletin in
+    let kept = noted gives start first c.args.progress.now.bulletin bulletin c.look_at-look.result (known c.args.pass.now).seen
+    c.note_look.ensures t in
     c.take_and_tell-taken.ensures.told first
     (still_told gives start first bulletin (known c.relist_at.new.pass).seen (known c.timer.new.pass).seen
     c.in-Ok-timer.ensures.called.made.begins
     (still_told gives start first bulletin (known c.args.pass.now).seen (known c.relist_at.new.pass).seen
-    c.in-Ok.ensures.relisted.made.begins t))
+    c.in-Ok.ensures.relisted.made.begins kept))
 
 pub returns-in-Err-timer-clause-told : goal.returns-in-Err-timer-clause-told
 returns-in-Err-timer-clause-told g c first t =
     let gives = g.D.Board.show_gives in
     let start = start_of c.args.store.now in
-    let bulletin = c.args.progress.now.bulletin in
+    let bulletin = c.note_look.new.bulletin in
+    let kept = noted gives start first c.args.progress.now.bulletin bulletin c.look_at-look.result (known c.args.pass.now).seen
+    c.note_look.ensures t in
     still_told gives start first bulletin (known c.relist_at.new.pass).seen (known c.timer.new.pass).seen
     c.in-Err-timer.ensures.refused.made.begins
     (still_told gives start first bulletin (known c.args.pass.now).seen (known c.relist_at.new.pass).seen
-    c.in-Ok.ensures.relisted.made.begins t)
+    c.in-Ok.ensures.relisted.made.begins kept)
 
 pub returns-in-Err-clause-told : goal.returns-in-Err-clause-told
 returns-in-Err-clause-told g c first t =
-    still_told g.D.Board.show_gives (start_of c.args.store.now) first c.args.progress.now.bulletin
-    (known c.args.pass.now).seen (known c.relist_at.new.pass).seen c.in-Err.ensures.refused.made.begins t
+    let gives = g.D.Board.show_gives in
+    let start = start_of c.args.store.now in
+    still_told gives start first c.note_look.new.bulletin
+    (known c.args.pass.now).seen (known c.relist_at.new.pass).seen c.in-Err.ensures.refused.made.begins
+    (noted gives start first c.args.progress.now.bulletin c.note_look.new.bulletin c.look_at-look.result (known c.args.pass.now).seen
+    c.note_look.ensures t)

@@ -12,12 +12,14 @@ use Rattle.xl_heartbeat.proofs.relisting.relist_at.Goals as goal
 
 pub returns-in_default-clause-relisted : goal.returns-in_default-clause-relisted
 returns-in_default-clause-relisted g c =
-    unasked c.args.store.now (made_at c.args.publishing.now c.args.now) c.args.now c.args.set.now
+    unasked c.args.store.now (made_at c.args.standing.now.publishing c.args.now) c.args.now
+    c.args.standing.now
     (known c.args.pass.now) c.in_default.ensures.other
 
 pub returns-in-Ok-Ok-clause-relisted : goal.returns-in-Ok-Ok-clause-relisted
 returns-in-Ok-Ok-clause-relisted g c =
-    set_now c.args.store.now (made_at c.args.publishing.now c.args.now) c.args.now c.args.set.now c.in-Some.list
+    set_now c.args.store.now (made_at c.args.standing.now.publishing c.args.now) c.args.now
+    c.args.standing.now c.in-Some.list
     c.args.pass.now c.relist.new.pass c.in-Some.ensures.other
     (subst (λ (l : TrustedList). Called c.args.store.now c.args.pass.now (Relist c.args.now l) Done c.relist.new.pass)
     c.copy.ensures
@@ -27,7 +29,8 @@ returns-in-Ok-Ok-clause-relisted g c =
 
 pub returns-in-Ok-Err-clause-relisted : goal.returns-in-Ok-Err-clause-relisted
 returns-in-Ok-Err-clause-relisted g c =
-    not_set c.args.store.now (made_at c.args.publishing.now c.args.now) c.args.now c.args.set.now c.in-Some.list
+    not_set c.args.store.now (made_at c.args.standing.now.publishing c.args.now) c.args.now
+    c.args.standing.now c.in-Some.list
     c.in-Ok-Err.field-0-0 c.args.pass.now c.relist.new.pass c.in-Some.ensures.other
     (subst
     (λ (l : TrustedList).
