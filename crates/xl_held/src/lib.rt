@@ -5,6 +5,7 @@
 #![tactic(auto)]
 
 mod changes;
+mod hearing;
 mod ledgers;
 mod members;
 mod reports;
@@ -13,3 +14,4 @@ mod settings;
 mod words;
 
 pub use changes::{push_changed, push_opened};
+pub use hearing::push_heard;

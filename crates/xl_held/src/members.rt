@@ -14,7 +14,7 @@ use xl_sched::Reader;
 use xl_trie::Trie;
 use xl_wire::{Proposal, Validation};
 
-fn push_row_line(
+pub fn push_row_line(
     alloc: Global,
     text: &mut String,
     reader: &Reader,
@@ -69,7 +69,7 @@ pub fn push_new_rows(
     Ok(())
 }
 
-fn push_proposal_line(
+pub fn push_proposal_line(
     alloc: Global,
     text: &mut String,
     reader: &Reader,

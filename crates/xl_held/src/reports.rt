@@ -49,7 +49,7 @@ fn push_prefers_line(
     Ok(())
 }
 
-fn push_new_report(
+pub fn push_new_report(
     alloc: Global,
     text: &mut String,
     reader: &Reader,
@@ -66,7 +66,7 @@ fn push_new_report(
     push_report_line(alloc, text, reader, number, last)
 }
 
-fn push_new_preference(
+pub fn push_new_preference(
     alloc: Global,
     text: &mut String,
     reader: &Reader,

@@ -153,7 +153,8 @@ fn push_new_set(
     push_set_line(alloc, text, reader, number, ids)
 }
 
-fn push_new_pending(
+/// The transactions that are pending, if they are new.
+pub fn push_new_pending(
     alloc: Global,
     text: &mut String,
     reader: &Reader,

@@ -55,7 +55,8 @@ fn push_list_line(text: &mut String, node: NodeNo, list: &List) -> Result<(), Ou
     Ok(())
 }
 
-fn push_new_time(
+/// Its time, if that is new.
+pub fn push_new_time(
     text: &mut String,
     node: NodeNo,
     before: Millis,

@@ -1,0 +1,254 @@
+-- A node that hears something of a member within a second holds nothing else that it didn't hold before.
+use Rattle.std.proofs.Common.{◌≡◌, ◌≢◌, ℕ, Bool, true, false, List, [], ◌∷◌, ◌++◌, length, refl, sym, ap, ◌∙◌, subst, inl, inr, arith, cond, Option, Some, None}
+use Rattle.std.specs.Prelude.{◌==◌, ◌&&◌, ◌||◌, ◌≤◌, All, find, map, nat_eq}
+use Rattle.std.specs.List.{AllByRecursion, IsDistinct, flat_map, list_any}
+use Rattle.std.specs.Cmp.Lexicographic.{pointwise}
+use Rattle.std.specs.Option.{option_and_then}
+use Rattle.std.specs.Str.{bytes_eq}
+use Rattle.std.proofs.lemmas.Bool.{cases_eq, cond_both, cond-true, cond-false, eq-eqb, eqb-true}
+use Rattle.std.proofs.lemmas.Bool.Decides.{nat_tests}
+use Rattle.std.proofs.lemmas.List.{append-nil}
+use Rattle.std.proofs.lemmas.List.Elements.{All-cons, All-head, All-nil, All-tail}
+use Rattle.std.proofs.lemmas.Slice.Eq.{bytes_eq-Decides}
+use Rattle.xl_base.specs.declared.ids.LedgerId.{LedgerId}
+use Rattle.xl_base.specs.declared.ids.TxId.{TxId}
+use Rattle.xl_lists.specs.Lists.{IsValid, TrustedList, is_on}
+use Rattle.xl_lists.proofs.Rising.{on_in_range}
+use Rattle.xl_core.specs.Node.{Node}
+use Rattle.xl_noted.specs.declared.members.NotedMember.{NotedMember}
+use Rattle.xl_noted.specs.Hearing.{LeavesOthers}
+use Rattle.xl_noted.specs.Noted.{Noted, hearing_noted, member_noted, noted, noted_of, position_before, round_noted, row_before}
+use Rattle.xl_noted.specs.Same.{are_same_ids, is_same_bool, is_same_id, is_same_list, is_same_mode, is_same_number, is_same_phase, is_same_position, is_same_proposal, is_same_row, is_same_validation}
+use Rattle.xl_rounds.specs.declared.phase.Mode.{Mode}
+use Rattle.xl_rounds.specs.declared.phase.Mode.TheVariants.{Proposing, Observing, SwitchedLedger}
+use Rattle.xl_rounds.specs.declared.phase.Phase.{Phase}
+use Rattle.xl_rounds.specs.declared.phase.Phase.TheVariants.{Open, Establish, Accepted}
+use Rattle.xl_rounds.specs.declared.setting.Setting.{Setting}
+use Rattle.xl_rounds.specs.Positions.{position_of}
+use Rattle.xl_rounds.specs.Rounds.{Round, our_position}
+use Rattle.xl_sched.specs.declared.named.Named.{Named}
+use Rattle.xl_validations.specs.Rows.{current_of}
+use Rattle.xl_wire.specs.declared.proposal.Proposal.{Proposal}
+use Rattle.xl_wire.specs.declared.validation.Validation.{Validation}
+use Rattle.xl_held.specs.Changes.{agreement_changed, agreement_heard, changed_lines, heard_lines, is_same_round, ledgers_changed, proposal_changed, proposal_heard, proposals_changed, reports_changed, reports_heard, round_changed, row_changed, row_heard, rows_changed, settings_changed, unless}
+use Rattle.xl_held.specs.Lines.{issuing_line, kept_line, list_line, pending_line, position_line, proposal_line, round_line, row_line, set_line, time_line}
+
+-- WHAT IS THE SAME AS ITSELF
+
+bytes_itself : (bytes : List ℕ) → bytes_eq bytes bytes ≡ true
+bytes_itself bytes = (bytes_eq-Decides bytes bytes).1 refl
+
+number_itself : (n : ℕ) → (n == n) ≡ true
+number_itself n = eq-eqb n n refl
+
+both : (a b : Bool) → a ≡ true → b ≡ true → (a && b) ≡ true
+both a b is other = rw (is, other) refl
+
+bool_itself : (b : Bool) → is_same_bool b b ≡ true
+bool_itself true = refl
+bool_itself false = refl
+
+id_itself : (o : Option LedgerId) → is_same_id o o ≡ true
+id_itself None = refl
+id_itself (Some id) = bytes_itself id.0
+
+seq_itself : (o : Option ℕ) → is_same_number o o ≡ true
+seq_itself None = refl
+seq_itself (Some n) = number_itself n
+
+validation_itself : (v : Validation) → is_same_validation v v ≡ true
+validation_itself v = rw (number_itself v.seq, number_itself v.signed, bool_itself v.full, bytes_itself v.id.0, id_itself v.validated) refl
+
+row_itself : (o : Option Validation) → is_same_row o o ≡ true
+row_itself None = refl
+row_itself (Some v) = validation_itself v
+
+proposal_itself : (p : Proposal) → is_same_proposal p p ≡ true
+proposal_itself p = rw (number_itself p.pseq, number_itself p.close, number_itself p.time, bytes_itself p.prev.0, bytes_itself p.set.0) refl
+
+position_itself : (o : Option Proposal) → is_same_position o o ≡ true
+position_itself None = refl
+position_itself (Some p) = proposal_itself p
+
+phase_itself : (p : Phase) → is_same_phase p p ≡ true
+phase_itself Open = refl
+phase_itself Establish = refl
+phase_itself Accepted = refl
+
+mode_itself : (m : Mode) → is_same_mode m m ≡ true
+mode_itself Proposing = refl
+mode_itself Observing = refl
+mode_itself SwitchedLedger = refl
+
+members_themselves : (ms : List ℕ) → pointwise (λ (x y : ℕ). x == y) ms ms ≡ true
+members_themselves [] = refl
+members_themselves (m ∷ ms) = both (m == m) (pointwise (λ (x y : ℕ). x == y) ms ms) (number_itself m) (members_themselves ms)
+
+list_itself : (list : TrustedList) → is_same_list list list ≡ true
+list_itself list = both (list.quorum == list.quorum) (pointwise (λ (x y : ℕ). x == y) list.members list.members) (number_itself list.quorum) (members_themselves list.members)
+
+ids_themselves : (ids : List TxId) → are_same_ids ids ids ≡ true
+ids_themselves [] = refl
+ids_themselves (id ∷ ids) = both (bytes_eq id.0 id.0) (are_same_ids ids ids) (bytes_itself id.0) (ids_themselves ids)
+
+-- so nothing is told of it
+unless_same : (b : Bool) (line : List ℕ) → b ≡ true → unless b line ≡ []
+unless_same b line is = cond-true b [] line is
+
+-- THE LIST'S MEMBERS
+
+-- a number that is on a list was noted
+noted_on : (n : Node) (k : ℕ) (ms : List ℕ) → is_on ms k ≡ true → noted_of (map (member_noted n) ms) k ≡ Some (member_noted n k)
+noted_on n k [] on = absurd cc
+noted_on n k (m ∷ ms) on =
+    cond_both (m == k) (Some (member_noted n m)) (noted_of (map (member_noted n) ms) k) (λ o. o ≡ Some (member_noted n k))
+    (λ is. ap (λ (j : ℕ). Some (member_noted n j)) (eqb-true m k is))
+    (λ is_not. noted_on n k ms (later k m ms is_not on))
+  where
+    flipped : (a b : ℕ) → (a == b) ≡ false → (b == a) ≡ false
+    flipped a b e = grind (arith, nat_tests, e)
+
+    later : (k m : ℕ) (ms : List ℕ) → (m == k) ≡ false → is_on (m ∷ ms) k ≡ true → is_on ms k ≡ true
+    later k m ms is_not on = sym (ap (λ (b : Bool). b || list_any (λ j. k == j) ms) (flipped m k is_not)) ∙ on
+
+row_of_noted : (n : Node) (k : ℕ) (ms : List ℕ) → is_on ms k ≡ true → row_before (map (member_noted n) ms) k ≡ current_of n.rows k
+row_of_noted n k ms on = ap (option_and_then (λ (known : NotedMember). known.row)) (noted_on n k ms on)
+
+position_of_noted : (n : Node) (k : ℕ) (ms : List ℕ) → is_on ms k ≡ true → position_before (map (member_noted n) ms) k ≡ position_of n.round.positions k
+position_of_noted n k ms on = ap (option_and_then (λ (known : NotedMember). known.position)) (noted_on n k ms on)
+
+-- each of them is on it
+on_more : (k m : ℕ) (ms : List ℕ) → is_on ms k ≡ true → is_on (m ∷ ms) k ≡ true
+on_more k m ms on = right (k == m) (list_any (λ j. k == j) ms) on
+  where
+    right : (a b : Bool) → b ≡ true → (a || b) ≡ true
+    right true b is = refl
+    right false b is = is
+
+on_first : (m : ℕ) (ms : List ℕ) → is_on (m ∷ ms) m ≡ true
+on_first m ms = ap (λ (b : Bool). b || list_any (λ j. m == j) ms) (number_itself m)
+
+-- of what is nothing except for one number nothing else is left
+none_left : (f : ℕ → List ℕ) (m : ℕ) (ms : List ℕ) → ((k : ℕ) → is_on ms k ≡ true → k ≢ m → f k ≡ []) → is_on ms m ≡ false → flat_map f ms ≡ []
+none_left f m [] none off = refl
+none_left f m (k ∷ ks) none off =
+    let parts = neither (m == k) (list_any (λ j. m == j) ks) off in
+    ap (λ (xs : List ℕ). xs ++ flat_map f ks) (none k (on_first k ks) (differs m k parts.0))
+    ∙ none_left f m ks (λ j on other. none j (on_more j k ks on) other) parts.1
+  where
+    neither : (a b : Bool) → (a || b) ≡ false → (a ≡ false) × (b ≡ false)
+    neither true b e = absurd cc
+    neither false b e = (refl, e)
+
+    false_true : false ≡ true → ⊥
+    false_true e = cc
+
+    differs : (m k : ℕ) → (m == k) ≡ false → k ≢ m
+    differs m k is_not same = false_true (sym is_not ∙ eq-eqb m k (sym same))
+
+-- a number that differs from each isn't on it
+off_rest : (m : ℕ) (ms : List ℕ) → AllByRecursion (λ y. nat_eq m y ≡ false) ms → is_on ms m ≡ false
+off_rest m [] each = refl
+off_rest m (k ∷ ks) each = rw (flipped m k each.0) (off_rest m ks each.1)
+  where
+    flipped : (a b : ℕ) → nat_eq a b ≡ false → (a == b) ≡ false
+    flipped a b e = grind (arith, nat_tests, e)
+
+one_left : (f : ℕ → List ℕ) (m : ℕ) (ms : List ℕ) → IsDistinct nat_eq ms → ((k : ℕ) → is_on ms k ≡ true → k ≢ m → f k ≡ []) → is_on ms m ≡ true → flat_map f ms ≡ f m
+unfolding IsDistinct
+one_left f m [] once none on = absurd cc
+one_left f m (k ∷ ks) once none on = elim (cases_eq k m) [
+  | inl same ↦
+      let rest : flat_map f ks ≡ [] =
+      none_left f m ks (λ j there other. none j (on_more j k ks there) other) (subst (λ (j : ℕ). is_on ks j ≡ false) same (off_rest k ks once.0)) in
+      ap (λ (xs : List ℕ). f k ++ xs) rest ∙ (append-nil (f k) ∙ ap f same)
+  | inr other ↦
+      ap (λ (xs : List ℕ). xs ++ flat_map f ks) (none k (on_first k ks) other)
+      ∙ one_left f m ks once.1 (λ j there differs. none j (on_more j k ks there) differs) (still m k ks (λ same. other (sym same)) on)
+]
+  where
+    differs : (a b : ℕ) → a ≢ b → (a == b) ≡ false
+    differs a b other = grind (arith, nat_tests, other)
+
+    still : (m k : ℕ) (ks : List ℕ) → m ≢ k → is_on (k ∷ ks) m ≡ true → is_on ks m ≡ true
+    still m k ks other on = sym (ap (λ (b : Bool). b || list_any (λ j. m == j) ks) (differs m k other)) ∙ on
+
+-- WHAT IS TOLD
+
+module _ (names : List Named) (i m : ℕ) (n later : Node) (leaves : LeavesOthers m n later) (valid : IsValid n.list) (on : is_on n.list.members m ≡ true) where
+  abbrev before : List NotedMember
+  before = map (member_noted n) n.list.members
+
+  settings : settings_changed i (noted n) later ≡ unless (n.time == later.time) (time_line i later.time)
+  settings =
+      let time : List ℕ = unless (n.time == later.time) (time_line i later.time) in
+      let kept : unless (n.kept == later.kept) (kept_line i later.kept) ≡ [] =
+      unless_same (n.kept == later.kept) (kept_line i later.kept) (ap (λ (k : ℕ). n.kept == k) leaves.kept ∙ number_itself n.kept) in
+      let failed : unless (is_same_number n.failed_save later.failed_save) (issuing_line i later.failed_save) ≡ [] =
+      unless_same (is_same_number n.failed_save later.failed_save) (issuing_line i later.failed_save) (ap (is_same_number n.failed_save) leaves.failed_save ∙ seq_itself n.failed_save) in
+      let list : unless (is_same_list n.list later.list) (list_line i later.list) ≡ [] =
+      unless_same (is_same_list n.list later.list) (list_line i later.list) (ap (is_same_list n.list) leaves.list ∙ list_itself n.list) in
+      let failing : List ℕ = unless (is_same_number n.failed_save later.failed_save) (issuing_line i later.failed_save) in
+      let listed : List ℕ = unless (is_same_list n.list later.list) (list_line i later.list) in
+      ap (λ (xs : List ℕ). time ++ xs ++ failing ++ listed) kept
+      ∙ (ap (λ (xs : List ℕ). xs ++ failing ++ listed) (append-nil time)
+      ∙ (ap (λ (xs : List ℕ). time ++ xs ++ listed) failed
+      ∙ (ap (λ (xs : List ℕ). xs ++ listed) (append-nil time)
+      ∙ (ap (λ (xs : List ℕ). time ++ xs) list ∙ append-nil time))))
+
+  row_none : (k : ℕ) → is_on n.list.members k ≡ true → k ≢ m → row_changed names i before later k ≡ []
+  row_none k there other =
+      unless_same (is_same_row (row_before before k) (current_of later.rows k)) (row_line names i k (current_of later.rows k))
+      (ap (λ (o : Option Validation). is_same_row o (current_of later.rows k)) (row_of_noted n k n.list.members there)
+      ∙ (ap (is_same_row (current_of n.rows k)) (leaves.rows k other) ∙ row_itself (current_of n.rows k)))
+
+  rows : rows_changed names i before later ≡ row_heard names i (member_noted n m) later
+  rows =
+      ap (λ (ms : List ℕ). flat_map (row_changed names i before later) ms) (ap (λ (l : TrustedList). l.members) leaves.list)
+      ∙ (one_left (row_changed names i before later) m n.list.members valid.once row_none on
+      ∙ ap (λ (o : Option Validation). unless (is_same_row o (current_of later.rows m)) (row_line names i m (current_of later.rows m))) (row_of_noted n m n.list.members on))
+
+  proposal_none : (k : ℕ) → is_on n.list.members k ≡ true → k ≢ m → proposal_changed names i before later k ≡ []
+  proposal_none k there other =
+      unless_same (is_same_position (position_before before k) (position_of later.round.positions k)) (proposal_line names i k (position_of later.round.positions k))
+      (ap (λ (o : Option Proposal). is_same_position o (position_of later.round.positions k)) (position_of_noted n k n.list.members there)
+      ∙ (ap (is_same_position (position_of n.round.positions k)) (leaves.positions k (on_in_range n.list.members valid.numbers k there).0 other) ∙ position_itself (position_of n.round.positions k)))
+
+  proposals : proposals_changed names i before later ≡ proposal_heard names i (member_noted n m) later
+  proposals =
+      ap (λ (ms : List ℕ). flat_map (proposal_changed names i before later) ms) (ap (λ (l : TrustedList). l.members) leaves.list)
+      ∙ (one_left (proposal_changed names i before later) m n.list.members valid.once proposal_none on
+      ∙ ap (λ (o : Option Proposal). unless (is_same_position o (position_of later.round.positions m)) (proposal_line names i m (position_of later.round.positions m))) (position_of_noted n m n.list.members on))
+
+  its_round : round_changed names i (round_noted n.round) later.round ≡ unless (are_same_ids n.round.pending later.round.pending) (pending_line names i later.round.pending)
+  its_round =
+      let pending : List ℕ = unless (are_same_ids n.round.pending later.round.pending) (pending_line names i later.round.pending) in
+      let same_phase : is_same_phase n.round.phase later.round.phase ≡ true = ap (is_same_phase n.round.phase) leaves.phase ∙ phase_itself n.round.phase in
+      let same_mode : is_same_mode n.round.setting.mode later.round.setting.mode ≡ true = ap (λ (s : Setting). is_same_mode n.round.setting.mode s.mode) leaves.setting ∙ mode_itself n.round.setting.mode in
+      let same_start : (n.round.setting.started == later.round.setting.started) ≡ true = ap (λ (s : Setting). n.round.setting.started == s.started) leaves.setting ∙ number_itself n.round.setting.started in
+      let same : is_same_round (round_noted n.round) later.round ≡ true = rw (same_phase, same_mode, same_start) refl in
+      let first : unless (is_same_round (round_noted n.round) later.round) (round_line i later.round) ≡ [] = unless_same (is_same_round (round_noted n.round) later.round) (round_line i later.round) same in
+      let position : unless (is_same_proposal (our_position n.round) (our_position later.round)) (position_line names i (our_position later.round)) ≡ [] =
+      unless_same (is_same_proposal (our_position n.round) (our_position later.round)) (position_line names i (our_position later.round)) (ap (is_same_proposal (our_position n.round)) leaves.position ∙ proposal_itself (our_position n.round)) in
+      let own : unless (are_same_ids n.round.positions.own later.round.positions.own) (set_line names i later.round.positions.own) ≡ [] =
+      unless_same (are_same_ids n.round.positions.own later.round.positions.own) (set_line names i later.round.positions.own) (ap (are_same_ids n.round.positions.own) leaves.own ∙ ids_themselves n.round.positions.own) in
+      ap (λ (xs : List ℕ). xs ++ unless (is_same_proposal (our_position n.round) (our_position later.round)) (position_line names i (our_position later.round)) ++ unless (are_same_ids n.round.positions.own later.round.positions.own) (set_line names i later.round.positions.own) ++ pending) first
+      ∙ (ap (λ (xs : List ℕ). xs ++ unless (are_same_ids n.round.positions.own later.round.positions.own) (set_line names i later.round.positions.own) ++ pending) position
+      ∙ ap (λ (xs : List ℕ). xs ++ pending) own)
+
+  -- only what a hearing may change is told
+  pub heard_is_changed : heard_lines names i (hearing_noted n m) later ≡ changed_lines names i (noted n) later
+  heard_is_changed =
+      let time : List ℕ = unless (n.time == later.time) (time_line i later.time) in
+      let row : List ℕ = row_heard names i (member_noted n m) later in
+      let ledgers : List ℕ = ledgers_changed names i (length n.ledgers.headers) later in
+      let reports : List ℕ = reports_heard names i (hearing_noted n m) later in
+      let pending : List ℕ = unless (are_same_ids n.round.pending later.round.pending) (pending_line names i later.round.pending) in
+      let proposal : List ℕ = proposal_heard names i (member_noted n m) later in
+      let agreement : List ℕ = agreement_heard i (hearing_noted n m) later.round in
+      sym (
+        ap (λ (xs : List ℕ). xs ++ rows_changed names i before later ++ ledgers ++ reports ++ round_changed names i (round_noted n.round) later.round ++ proposals_changed names i before later ++ agreement) settings
+        ∙ (ap (λ (xs : List ℕ). time ++ xs ++ ledgers ++ reports ++ round_changed names i (round_noted n.round) later.round ++ proposals_changed names i before later ++ agreement) rows
+        ∙ (ap (λ (xs : List ℕ). time ++ row ++ ledgers ++ reports ++ xs ++ proposals_changed names i before later ++ agreement) its_round
+        ∙ ap (λ (xs : List ℕ). time ++ row ++ ledgers ++ reports ++ pending ++ xs ++ agreement) proposals))
+      )
