@@ -1,6 +1,8 @@
 pub mod Writing
 pub mod Sealed
 pub mod Frames
+pub mod Currents
+pub mod Heard
 pub mod Telling
 pub mod Going
 pub mod Plain

@@ -1,14 +1,14 @@
 -- What is told of a part, by what the code has at hand.
 use Rattle.std.proofs.Common.{◌≡◌, ℕ, ◌+◌, List, [], ◌∷◌, ◌++◌, length, drop, Option, Some, ap, sym, ◌∙◌, append-nil, refl}
 use Rattle.xl_lines.specs.Rules.{goes_on}
-use Rattle.xl_noted.specs.Noted.{Noted}
 use Rattle.xl_running.specs.Running.{Running, happens, in_world, world_of}
 use Rattle.xl_sched.specs.declared.event.Event.{Event}
 use Rattle.xl_sched.specs.declared.event.What.{What}
 use Rattle.xl_sched.specs.declared.event.What.TheVariants as what
 use Rattle.xl_sched.specs.declared.line.Line.TheVariants as line
 use Rattle.xl_sched.specs.declared.named.Named.{Named}
-use Rattle.xl_tell.specs.Nodes.{changed_at, node_of, noted_at}
+use Rattle.xl_tell.specs.declared.before.Before.{Before}
+use Rattle.xl_tell.specs.Before.{Tells, told_by}
 use Rattle.xl_tell.specs.Parts.{lines_of_parts, new_frames, new_holdings, part_lines, sent_lines}
 use Rattle.xl_tell.specs.Tellings.{after_line, event_lines, opening}
 use Rattle.xl_world.specs.Parts.{after_events, parts_at, parts_of}
@@ -25,14 +25,14 @@ frames_written names others count sent before after old now same counted there i
     ∙ (ap (λ (k : ℕ). old ++ sent_lines names (k + 1) (drop k sent)) counted
     ∙ ap (λ (fs : List Sent). old ++ sent_lines names (length before.sent + 1) (drop (length before.sent) fs)) there))
 
-pub holdings_written : (names others : List Named) (w v after : World) (e : Event) (node : Option ℕ) (before : Option Noted) (old now : List ℕ) → others ≡ names → v ≡ w → after ≡ after_event w e → node ≡ node_of v e.what → before ≡ noted_at v node → now ≡ old ++ changed_at others node before after → now ≡ old ++ new_holdings names w e
-holdings_written names others w v after e node before old now same first later at noted is =
+pub holdings_written : (names others : List Named) (w v after : World) (e : Event) (before : Before) (old now : List ℕ) → others ≡ names → v ≡ w → after ≡ after_event w e → Tells v e before → now ≡ old ++ told_by others before after → now ≡ old ++ new_holdings names w e
+holdings_written names others w v after e before old now same first later tells is =
     is
-    ∙ (ap (λ (ns : List Named). old ++ changed_at ns node before after) same
-    ∙ (ap (λ (u : World). old ++ changed_at names node before u) later
-    ∙ (ap (λ (b : Option Noted). old ++ changed_at names node b (after_event w e)) noted
-    ∙ (ap (λ (i : Option ℕ). old ++ changed_at names i (noted_at v i) (after_event w e)) at
-    ∙ ap (λ (u : World). old ++ changed_at names (node_of u e.what) (noted_at u (node_of u e.what)) (after_event w e)) first))))
+    ∙ (ap (λ (ns : List Named). old ++ told_by ns before after) same
+    ∙ (ap (λ (u : World). old ++ told_by names before u) later
+    ∙ (ap (λ (u : World). old ++ told_by names before (after_event u e)) (sym first)
+    ∙ (ap (λ (xs : List ℕ). old ++ xs) (tells names)
+    ∙ ap (λ (u : World). old ++ new_holdings names u e) first))))
 
 -- the world behind an event's parts is that behind the event
 pub whole_world : (r : Running) (e : Event) → in_world r (after_events (world_of r) (parts_of (world_of r) e)) ≡ happens r e

@@ -2,3 +2,4 @@ pub mod Nodes
 pub mod Parts
 pub mod Tellings
 pub mod OwnLines
+pub mod Before

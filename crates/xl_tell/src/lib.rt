@@ -6,6 +6,7 @@
 //! of the bytes that the source held, and `law_of_telling` says that without its own lines it is the report of `replay`.
 #![tactic(auto)]
 
+mod before;
 mod command;
 mod events;
 mod laws;

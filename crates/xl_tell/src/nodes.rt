@@ -1,17 +1,19 @@
 // The node at which something happens, and what it holds.
-ghost use Rattle.std.specs.Prelude.{◌≡◌, ◌++◌, IfOk, OnOk, option_map};
+ghost use Rattle.std.specs.Prelude.{◌≡◌, ◌++◌, OnOk, option_map};
 ghost use Rattle.std.specs.String.{string_bytes};
-ghost use Rattle.xl_noted.specs.Seen.{noted_seen};
-ghost use Rattle.xl_tell.specs.Nodes.{all_opened, changed_at, changed_in, node_of, noted_at, opened_in};
+ghost use Rattle.xl_noted.specs.Seen.{hearing_seen, noted_seen};
+ghost use Rattle.xl_tell.specs.Before.{told_by};
+ghost use Rattle.xl_tell.specs.Nodes.{all_opened, changed_in, heard_in, node_of, opened_in};
 ghost use Rattle.xl_world.specs.Schedule.{frame_at, node_asked};
 ghost use Rattle.xl_world.specs.World.{core_in};
 
+use crate::before::Before;
 use std::alloc::Global;
 use xl_base::{NodeNo, OutOfMemory};
-use xl_held::{push_changed, push_opened};
-use xl_noted::Noted;
+use xl_held::{push_changed, push_heard, push_opened};
+use xl_noted::{Noted, NotedHearing};
 use xl_sched::{Ask, Reader, What};
-use xl_world::World;
+use xl_world::{Sent, World};
 
 fn node_asked(ask: &Ask) -> NodeNo
     ensures { result ≡ node_asked ask.now }
@@ -21,14 +23,21 @@ fn node_asked(ask: &Ask) -> NodeNo
     }
 }
 
-/// Who receives the sent frame of a place, from 1 on.
-fn receiver_of(world: &World, place: u64) -> Option<NodeNo>
-    ensures { result ≡ option_map (λ frame. frame.to) (frame_at world.now.sent place) }
+/// The sent frame of a place, from 1 on.
+pub fn frame_at(world: &World, place: u64) -> Option<Sent<'_>>
+    ensures { result ≡ frame_at world.now.sent place }
 {
     let Some(before) = place.checked_sub(1) else {
         return None;
     };
-    match world.sent().get(before as usize) {
+    world.sent().get(before as usize)
+}
+
+/// Who receives the sent frame of a place, from 1 on.
+fn receiver_of(world: &World, place: u64) -> Option<NodeNo>
+    ensures { result ≡ option_map (λ frame. frame.to) (frame_at world.now.sent place) }
+{
+    match frame_at(world, place) {
         Some(frame) => Some(frame.to()),
         None => None,
     }
@@ -57,23 +66,6 @@ pub fn node_of(world: &World, what: &What) -> Option<NodeNo>
     }
 }
 
-/// What the node holds, if there is one.
-pub fn note_at(
-    alloc: Global,
-    world: &World,
-    node: &Option<NodeNo>,
-) -> Result<Option<Noted>, OutOfMemory>
-    ensures { IfOk result (λ before. option_map noted_seen before ≡ noted_at world.now node.now) }
-{
-    let Some(number) = node else {
-        return Ok(None);
-    };
-    match world.node(*number) {
-        Some(core) => Ok(Some(Noted::of(alloc, core.node())?)),
-        None => Ok(None),
-    }
-}
-
 /// What the node of a number holds that it didn't hold when it was noted.
 fn push_changed_in(
     alloc: Global,
@@ -92,24 +84,43 @@ fn push_changed_in(
     }
 }
 
-/// What the node holds that it didn't hold when it was noted.
-pub fn push_changed_at(
+/// What the node of a number holds that has heard something, and didn't hold when it was noted.
+fn push_heard_in(
     alloc: Global,
     text: &mut String,
     reader: &Reader,
-    node: &Option<NodeNo>,
-    before: &Option<Noted>,
+    number: NodeNo,
+    before: &NotedHearing,
     world: &World,
 ) -> Result<(), OutOfMemory>
     ensures { OnOk result (string_bytes text.new ≡ string_bytes text.old
-        ++ changed_at reader.now.names node.now (option_map noted_seen before.now) world.now) }
+        ++ heard_in reader.now.names number (hearing_seen before.now) (core_in world.now number)) }
 {
-    let Some(number) = node else {
-        return Ok(());
-    };
-    match before {
-        Some(before) => push_changed_in(alloc, text, reader, *number, before, world),
+    match world.node(number) {
+        Some(core) => push_heard(alloc, text, reader, number, before, core.node()),
         None => Ok(()),
+    }
+}
+
+/// What the node holds that it didn't hold when it was noted.
+pub fn push_told(
+    alloc: Global,
+    text: &mut String,
+    reader: &Reader,
+    before: &Before,
+    world: &World,
+) -> Result<(), OutOfMemory>
+    ensures { OnOk result (string_bytes text.new ≡ string_bytes text.old
+        ++ told_by reader.now.names before.now world.now) }
+{
+    match before {
+        Before::Nobody => Ok(()),
+        Before::Whole { number, noted } => {
+            push_changed_in(alloc, text, reader, *number, noted, world)
+        }
+        Before::Hearing { number, noted } => {
+            push_heard_in(alloc, text, reader, *number, noted, world)
+        }
     }
 }
 

@@ -6,7 +6,8 @@ ghost use Rattle.xl_running.specs.Running.{happens, world_of};
 ghost use Rattle.xl_tell.specs.Parts.{part_lines};
 ghost use Rattle.xl_world.specs.Schedule.{IsPlausible};
 
-use crate::nodes::{node_of, note_at, push_changed_at};
+use crate::before::note_before;
+use crate::nodes::push_told;
 use crate::sent::push_sent;
 use std::alloc::Global;
 use xl_base::OutOfMemory;
@@ -45,13 +46,12 @@ pub fn tell_part(
     push_event(alloc, text, reader, reader.lines(), event)?;
     let first = world_in(running);
     let sent = first.sent().len();
-    let node = node_of(first, &event.what);
-    let before = note_at(alloc, first, &node)?;
+    let before = note_before(alloc, first, event)?;
     let happened = running.event(event)?;
     let reader = running.reader();
     push_outcomes(alloc, text, reader, reader.lines(), happened.as_slice())?;
     let world = world_in(running);
     push_sent(alloc, text, reader, world.sent(), sent)?;
-    push_changed_at(alloc, text, reader, &node, &before, world)?;
+    push_told(alloc, text, reader, &before, world)?;
     Ok(())
 }

@@ -35,7 +35,7 @@ returns-clause-told c =
     let text1 = string_bytes c.push_event.new.text in
     let text2 = string_bytes c.push_outcomes.new.text in
     let text3 = string_bytes c.push_sent.new.text in
-    let text4 = string_bytes c.push_changed_at.new.text in
+    let text4 = string_bytes c.push_told.new.text in
     let told = c.as_slice.result.now in
     let first : text1 ≡ text0 ++ event_line names n e =
     written_in (λ (ns : List Named) (k : ℕ). event_line ns k e) c.reader-reader.result.now r.reading c.lines.result text0 text1 c.reader-reader.ensures c.lines.ensures.value c.in_ok-push_event.ensures in
@@ -49,8 +49,8 @@ returns-clause-told c =
     (c.len-sent.ensures ∙ ap length (c.sent.ensures ∙ ap (λ (u : World). u.sent) c.world_in-first.ensures))
     (c.sent-2.ensures ∙ ap (λ (u : World). u.sent) (c.world_in-world.ensures ∙ there)) c.in_ok-push_sent.ensures in
     let held : text4 ≡ text3 ++ new_holdings names w e =
-    holdings_written names c.reader-reader-2.result.now.names w c.world_in-first.result.now c.world_in-world.result.now e c.node_of-node.result _ text3 text4 words
-    c.world_in-first.ensures (c.world_in-world.ensures ∙ there) c.node_of-node.ensures c.in_ok-before.ensures c.in_ok-push_changed_at.ensures in
+    holdings_written names c.reader-reader-2.result.now.names w c.world_in-first.result.now c.world_in-world.result.now e _ text3 text4 words
+    c.world_in-first.ensures (c.world_in-world.ensures ∙ there) c.in_ok-before.ensures c.in_ok-push_told.ensures in
     then_written text0 (event_line names n e ++ outcome_lines names n (outcomes w e) ++ new_frames names w (after_event w e)) (new_holdings names w e) text3 text4
     (then_written text0 (event_line names n e ++ outcome_lines names n (outcomes w e)) (new_frames names w (after_event w e)) text2 text3
     (then_written text0 (event_line names n e) (outcome_lines names n (outcomes w e)) text1 text2 first came) frames) held
