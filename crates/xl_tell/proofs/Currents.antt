@@ -10,7 +10,6 @@ use Rattle.xl_core.specs.State.{least_time}
 use Rattle.xl_core.proofs.Beside.{node_or_beside}
 use Rattle.xl_core.proofs.Current.{opened_current}
 use Rattle.xl_noted.proofs.Currents.{AreCurrent, happens_current}
-use Rattle.xl_world.specs.declared.place.Disk.{Disk}
 use Rattle.xl_world.specs.declared.place.Fate.{Fate}
 use Rattle.xl_world.specs.declared.place.Place.{Place}
 use Rattle.xl_world.specs.declared.plan.PlanNode.{PlanNode}

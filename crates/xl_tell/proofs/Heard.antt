@@ -28,10 +28,10 @@ use Rattle.xl_world.specs.declared.place.Fate.TheVariants.{Saved}
 use Rattle.xl_world.specs.declared.place.Place.{Place}
 use Rattle.xl_world.specs.Disk.{answer_of}
 use Rattle.xl_world.specs.Emptying.{event_steps}
-use Rattle.xl_world.specs.Schedule.{after_event, delivery}
+use Rattle.xl_world.specs.Schedule.{after_event}
 use Rattle.xl_world.specs.Sending.{Sent}
 use Rattle.xl_world.specs.Starts.{IsRun}
-use Rattle.xl_world.specs.World.{Step, World, core_in, disk_after, place_at, put_place, reply_at, run}
+use Rattle.xl_world.specs.World.{Step, World, core_in, disk_after, place_at, reply_at, run}
 use Rattle.xl_world.proofs.Emptying.{emptied, emptied_acts, emptied_node, event_ran}
 use Rattle.xl_world.proofs.Keeping.{core_keeps}
 use Rattle.xl_world.proofs.Putting.{put_at}
@@ -143,8 +143,8 @@ has_node w frame i at m brief to none = none_some brief.core (none ∙ (ap (core
 
 -- a world that has a node isn't spent
 pub unspent : (spent : Bool) (core : Core) → (spent ≡ true → Some core ≡ None) → spent ≡ false
-unspent true core no = absurd (none_some core (sym (no refl)))
-unspent false core no = refl
+unspent true core never = absurd (none_some core (sym (never refl)))
+unspent false core never = refl
 
 pub brief_so : (w : World) (number at m : ℕ) (core : Core) (n : Node) → IsRun w → Some core ≡ core_in w number → n ≡ core.node → IsValid n.list → is_on n.list.members m ≡ true →
     max n.time at / 1000 ≡ n.time / 1000 → IsBrief w number at m

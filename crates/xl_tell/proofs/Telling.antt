@@ -1,5 +1,5 @@
 -- What is told of a part, by what the code has at hand.
-use Rattle.std.proofs.Common.{◌≡◌, ℕ, ◌+◌, List, [], ◌∷◌, ◌++◌, length, drop, Option, Some, ap, sym, ◌∙◌, append-nil, refl}
+use Rattle.std.proofs.Common.{◌≡◌, ℕ, ◌+◌, List, [], ◌∷◌, ◌++◌, length, drop, Some, ap, sym, ◌∙◌, append-nil, refl}
 use Rattle.xl_lines.specs.Rules.{goes_on}
 use Rattle.xl_running.specs.Running.{Running, happens, in_world, world_of}
 use Rattle.xl_sched.specs.declared.event.Event.{Event}

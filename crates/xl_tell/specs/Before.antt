@@ -1,5 +1,5 @@
 -- What is noted before a part of an event, and what is told by it. Source: what the code of this crate keeps.
-use Rattle.std.specs.Prelude.{◌≡◌, ◌≤◌, ◌/◌, ℕ, max, true, List, [], Some}
+use Rattle.std.specs.Prelude.{◌≡◌, ◌/◌, ℕ, max, true, List, [], Some}
 use Rattle.xl_core.specs.Core.{Core}
 use Rattle.xl_lists.specs.Lists.{IsValid, is_on}
 use Rattle.xl_noted.specs.Seen.{hearing_seen, noted_seen}

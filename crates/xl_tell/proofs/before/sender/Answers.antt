@@ -1,5 +1,5 @@
 -- what is said is a body, so it has a spelling
-use Rattle.std.proofs.Common.{◌≡◌, ℕ, ap, sym, ◌∙◌, arith}
+use Rattle.std.proofs.Common.{ℕ, ap, sym, ◌∙◌, arith}
 use Rattle.xl_wire.specs.declared.body.Body.{Body}
 use Rattle.xl_wire.specs.Heads.{raw_in}
 use Rattle.xl_tags.specs.Rings.{schedule_ring}
