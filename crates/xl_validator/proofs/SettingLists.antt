@@ -95,15 +95,17 @@ on_filtered : (p : ℕ → Bool) (ns : List ℕ) (m : ℕ) → is_on (filter p n
 on_filtered p [] m on = absurd cc
 on_filtered p (n ∷ ns) m on = elim (cases_Bool (p n)) [
   | inr fails ↦ on_filtered p ns m (ap (λ (l : List ℕ). is_on l m) (sym (cond-false (p n) (n ∷ filter p ns) (filter p ns) fails)) ∙ on)
-  | inl passes ↦ here passes (ap (λ (l : List ℕ). is_on l m) (sym (cond-true (p n) (n ∷ filter p ns) (filter p ns) passes)) ∙ on)
+  | inl passes ↦ here passes (on_filtered p ns m)
+      (ap (λ (l : List ℕ). is_on l m) (sym (cond-true (p n) (n ∷ filter p ns) (filter p ns) passes)) ∙ on)
 ]
   where
-    first : (same : Bool) → (m == n) ≡ same → (same || is_on (filter p ns) m) ≡ true → p n ≡ true → p m ≡ true
-    first true is e passes = ap p (eqb-true m n is) ∙ passes
-    first false is e passes = on_filtered p ns m e
+    first : (same : Bool) → (m == n) ≡ same → p n ≡ true → (is_on (filter p ns) m ≡ true → p m ≡ true)
+        → (same || is_on (filter p ns) m) ≡ true → p m ≡ true
+    first true is passes later e = ap p (eqb-true m n is) ∙ passes
+    first false is passes later e = later e
 
-    here : p n ≡ true → is_on (n ∷ filter p ns) m ≡ true → p m ≡ true
-    here passes e = first (m == n) refl e passes
+    here : p n ≡ true → (is_on (filter p ns) m ≡ true → p m ≡ true) → is_on (n ∷ filter p ns) m ≡ true → p m ≡ true
+    here passes later e = first (m == n) refl passes later e
 
 module _ (me : ℕ) (settings : List PeerSetting) where
   -- each member but me that a kept roll names is a peer, and a threshold is one

@@ -1,17 +1,20 @@
 -- the core opens at the number that the keeper gave, and its run's history is legal, so it can be written as it was
-use Rattle.std.proofs.Common.{◌≡◌, ap, sym, ◌∙◌, length}
+use Rattle.std.proofs.Common.{◌≡◌, None, refl, ap, sym, subst, inl, ◌∙◌, length}
 use Rattle.std.specs.Prelude.{is_some}
 use Rattle.xl_heartbeat.specs.Outputs.{Output, output}
 use Rattle.xl_audit.specs.Rereading.{SaysYes}
+use Rattle.xl_base.specs.declared.status.Status.{Status}
+use Rattle.xl_base.specs.declared.status.Status.TheVariants as status
 use Rattle.xl_workers.specs.Linking.{hub_seen}
 use Rattle.xl_workers.specs.Runs.{status_of_end}
 use Rattle.xl_validator.specs.Preparing.{task_in}
 use Rattle.xl_validator.specs.Recordings.{IsWritten}
+use Rattle.xl_validator.specs.Tellings.{TellsSo}
 use Rattle.xl_validator.specs.Validators.{between}
 use Rattle.xl_validator.specs.declared.recording.Recording.{Recording}
 use Rattle.xl_validator.proofs.Behind.{ends, kept_there, legal_there, text_there, legal_of}
 use Rattle.xl_validator.proofs.Leaving.{leaves_by}
-use Rattle.xl_validator.proofs.Told.{of_either}
+use Rattle.xl_validator.proofs.Told.{of_either, of_none}
 use Rattle.xl_validator.proofs.command.start.Goals as goal
 
 pub recorded-ended-requires : goal.recorded-ended-requires
@@ -111,3 +114,10 @@ returns-in-Ok-prepare g c =
           c.in-Ok-prepare.ensures.core ran.life ran.told ran.untold c.status_left-last.ensures left.ensures.journal
           left.ensures.status done.ensures.left done.ensures.none c.tell_end-in-Ok-prepare.ensures;
     }
+
+pub returns-in_default-clause-told : goal.returns-in_default-clause-told
+returns-in_default-clause-told g c =
+    subst (λ (e : Status). TellsSo g.D.Board.show_gives c.args.judged.settings c.args.judged.now c.unopened.result.journal e
+    c.args.bulletin.now c.tell_end.new.bulletin) (sym c.unopened.ensures.status)
+    (of_none g.D.Board.show_gives c.args.judged.settings c.args.judged.now c.unopened.result.journal status.KeepFault
+    None c.args.bulletin.now c.tell_end.new.bulletin refl c.unopened.ensures.journal (inl refl) c.tell_end.ensures)

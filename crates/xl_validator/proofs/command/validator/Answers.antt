@@ -1,5 +1,5 @@
 -- settings are judged at one moment: refused ones open nothing, and with others each status is that of the node's run
-use Rattle.std.proofs.Common.{◌≡◌, ◌⊎◌, rules, sym, ◌∙◌, refl, subst, inl, inr, Err, IfSome}
+use Rattle.std.proofs.Common.{◌≡◌, ◌≢◌, ◌⊎◌, rules, sym, ◌∙◌, refl, subst, inl, inr, Err, IfSome}
 use Rattle.xl_workers.specs.Linking.{hub_seen}
 use Rattle.xl_settings.specs.Lines.{refusal_line}
 use Rattle.xl_base.specs.declared.status.Status.{Status}
@@ -17,6 +17,13 @@ use Rattle.xl_settings.specs.Settings.{settings_of}
 use Rattle.xl_validator.proofs.Refusing.{judged_right, judged_refused, judged_unread}
 use Rattle.xl_validator.proofs.Told.{boardless, tells_by, tells_none, tells_refused, tells_unread}
 use Rattle.xl_validator.proofs.command.validator.Goals as goal
+
+-- an input that can't be read, and memory that runs out, refuse no settings
+no_refusal_of_read : (s : Status) → s ≡ status.ReadFault → s ≢ status.InputRefused
+no_refusal_of_read s is other = let no = sym is ∙ other in cc
+
+no_refusal_of_memory : (s : Status) → s ≡ status.OutOfMemory → s ≢ status.InputRefused
+no_refusal_of_memory s is other = let no = sym is ∙ other in cc
 
 pub returns-in-Ok-bulletin_of-clause-judged : goal.returns-in-Ok-bulletin_of-clause-judged
 returns-in-Ok-bulletin_of-clause-judged g c =
@@ -56,7 +63,7 @@ returns-in-Err-Read-clause-judged g c =
     between hub hub held faults held faults)
     c.args.output.now c.args.output.now c.args.keeper ended.result.keeper ended.result.status ended.result.journal
     c.now-now.result c.now-now.ensures.may ended.ensures.journal (subst IsUnopened (sym ended.ensures.status) tt)
-    (λ is. let no = sym ended.ensures.status ∙ is in cc) refl refl ended.ensures.keeper refl)
+    (no_refusal_of_read ended.result.status ended.ensures.status) refl refl ended.ensures.keeper refl)
 
 pub returns-in-Err-OutOfMemory-clause-judged : goal.returns-in-Err-OutOfMemory-clause-judged
 returns-in-Err-OutOfMemory-clause-judged g c =
@@ -69,7 +76,7 @@ returns-in-Err-OutOfMemory-clause-judged g c =
     between hub hub held faults held faults)
     c.args.output.now c.args.output.now c.args.keeper ended.result.keeper ended.result.status ended.result.journal
     c.now-now.result c.now-now.ensures.may ended.ensures.journal (subst IsUnopened (sym ended.ensures.status) tt)
-    (λ is. let no = sym ended.ensures.status ∙ is in cc) refl refl ended.ensures.keeper refl)
+    (no_refusal_of_memory ended.result.status ended.ensures.status) refl refl ended.ensures.keeper refl)
 
 pub returns-in-Ok-bulletin_of-clause-done : goal.returns-in-Ok-bulletin_of-clause-done
 returns-in-Ok-bulletin_of-clause-done g c =
@@ -275,7 +282,7 @@ returns-clause-judged g c =
     between hub hub held faults held faults)
     c.args.output.now c.args.output.now c.args.keeper ended.result.keeper ended.result.status ended.result.journal
     c.now-now.result c.now-now.ensures.may ended.ensures.journal (subst IsUnopened (sym ended.ensures.status) tt)
-    (λ is. let no = sym ended.ensures.status ∙ is in cc) refl refl ended.ensures.keeper refl)
+    (no_refusal_of_memory ended.result.status ended.ensures.status) refl refl ended.ensures.keeper refl)
 
 pub returns-clause-complete : goal.returns-clause-complete
 returns-clause-complete g c no_read no_write no_keep no_net no_board full =
