@@ -36,12 +36,13 @@ use xl_ledger::Branch;
 use xl_lists::List;
 use xl_queues::{Broadcast, Queue};
 use xl_rounds::Said;
-use xl_wire::Body;
+use xl_wire::{Body, split};
 
 mod door;
 mod draining;
 mod first;
 mod greeting;
+mod hearing;
 mod marks;
 mod outgoing;
 mod readers;
@@ -160,7 +161,7 @@ impl<B: Branch + Drop> Core<B> {
         ensures unsent { self.new.waiting ≡ self.old.waiting }
         ensures stop { (held : Held) → IsCovered held self.old → IsCovered held self.new }
     {
-        self.hear(now, Tags::Tested, bytes)
+        self.hear(now, Tags::Tested, &split(bytes), bytes)
     }
 
     /// Hears bytes that come as if their sender had sealed them: the tag, the last 32 bytes of a frame, isn't looked at
@@ -179,7 +180,7 @@ impl<B: Branch + Drop> Core<B> {
         ensures unsent { self.new.waiting ≡ self.old.waiting }
         ensures stop { (held : Held) → IsCovered held self.old → IsCovered held self.new }
     {
-        self.hear(now, Tags::Assumed, bytes)
+        self.hear(now, Tags::Assumed, &split(bytes), bytes)
     }
 
     /// Hears a listed member's body as `frame` hears each frame that carries it, for less: it is for a world's frames.
@@ -203,28 +204,6 @@ impl<B: Branch + Drop> Core<B> {
     {
         let mut heard = UNHEARD;
         self.node.hear_body(now, from, body, &mut heard);
-        match &heard {
-            Ok(heard) => {
-                push_report(&mut self.untaken, &heard.report);
-                return Ok(heard.taken);
-            }
-            Err(why) => return Err(*why),
-        }
-    }
-
-    /// Hears bytes, with the tag tested or assumed.
-    fn hear(&mut self, now: Millis, tags: Tags, bytes: &[u8]) -> Result<Taken, Refusal>
-        requires moment { now ≤ greatest_millis }
-        ensures step { Answers (core_happens self.old (Frame now (bytes_with tags self.old.node.keys bytes.now)) Kept)
-            self.new (taken_answer result) }
-        ensures refused { result_err result
-            ≡ frame_refusal (at_moment now self.old.node) (bytes_with tags self.old.node.keys bytes.now) }
-        ensures unchanged { OnErr result (self.new ≡ record self.old { node = at_moment now self.old.node }) }
-        ensures unsent { self.new.waiting ≡ self.old.waiting }
-        ensures stop { (held : Held) → IsCovered held self.old → IsCovered held self.new }
-    {
-        let mut heard = UNHEARD;
-        self.node.hear(now, tags, bytes, &mut heard);
         match &heard {
             Ok(heard) => {
                 push_report(&mut self.untaken, &heard.report);

@@ -2,6 +2,7 @@ ghost use Rattle.std.specs.Prelude.{◌≡◌, ◌≤◌, OnErr, IsTrue, ℕ};
 ghost use Rattle.std.specs.Result.{result_err};
 ghost use Rattle.xl_base.specs.Moments.{greatest_millis};
 ghost use Rattle.xl_lists.specs.Lists.{is_on};
+ghost use Rattle.xl_wire.specs.Heads.{parts, split_of};
 ghost use Rattle.xl_wire.specs.Raws.{raw_frame};
 ghost use Rattle.xl_ledger.specs.Reading.{header_in};
 ghost use Rattle.xl_core.specs.Node.{Frame, at_moment, bytes_reply, happens, speech_reply, speech_refusal, frame_refusal, HearsOthers};
@@ -37,21 +38,23 @@ impl<B: Branch + Drop> Node<B> {
         ensures others { HearsOthers self.old bytes.now }
     {
         let mut heard = UNHEARD;
-        self.hear(now, Tags::Tested, bytes, &mut heard);
+        self.hear(now, Tags::Tested, &split(bytes), bytes, &mut heard);
         heard
     }
 
-    /// Hears as `frame` does, with the tag tested or assumed. What comes of it is large, so it is written where it is
-    /// to stand, here and in each call below.
+    /// Hears as `frame` does what was split off the bytes, with the tag tested or assumed. What comes of it is large, so
+    /// it is written where it is to stand, here and in each call below.
     #[inline(never)]
     pub(crate) fn hear(
         &mut self,
         now: Millis,
         tags: Tags,
+        parted: &Parted<'_>,
         bytes: &[u8],
         heard: &mut Result<Heard, Refusal>,
     )
         requires moment { now ≤ greatest_millis }
+        requires parted { parts parted.now ≡ split_of bytes.now }
         ensures exact { hear_reply heard.new self.new
             ≡ happens self.old (Frame now (bytes_with tags self.old.keys bytes.now)) Kept }
         ensures refused { result_err heard.new
@@ -62,7 +65,7 @@ impl<B: Branch + Drop> Node<B> {
         self.advance(now);
         // Its keys are its own.
         let _ = &self.keys;
-        match &split(bytes) {
+        match parted {
             Parted::Whole(raw) => self.hear_frame(tags, raw, bytes, heard),
             Parted::Need(lack) => *heard = Err(Refusal::Short(*lack)),
             Parted::Refused(why) => *heard = Err(Refusal::Frame(*why)),
