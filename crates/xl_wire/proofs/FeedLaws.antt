@@ -56,7 +56,7 @@ after_pushed xs ys piece start end from count refused fed view ok takes is added
 
 -- a frame that is handed out
 pub frame_handed : (xs : List ℕ) (start end n : ℕ) (refused : Bool) (raw : RawFrame) (fed : Fed) → fed_of (held_in xs start end) refused ≡ fed → IsFed xs start end → split_of (held_in xs start end) ≡ Whole raw → n ≡ span raw.body → n ≤ length (held_in xs start end)
-    → (fed_of (held_in xs (start + n) end) refused ≡ after_next fed) × (Frame (take (start + n - start) (drop start xs)) ≡ offer_of fed)
+    → (fed_of (held_in xs (start + n) end) refused ≡ after_next fed) × (Frame (take (start + n - start) (drop start xs)) ≡ offer_of fed) × (take (start + n - start) (drop start xs) ≡ take (span raw.body) (held_in xs start end))
 frame_handed xs start end n refused raw fed view ok split long there =
     let held = held_in xs start end in
     let inside : start + n ≤ end = omega (arith, there, ok.ordered, length-take (end - start) (drop start xs)) in
@@ -67,4 +67,5 @@ frame_handed xs start end n refused raw fed view ok split long there =
     let front : take (start + n - start) (drop start xs) ≡ take (span raw.body) held = ap (λ (k : ℕ). take k (drop start xs)) count ∙ sym (take-take (span raw.body) (end - start) (drop start xs) (omega (arith, inside, long))) in (
       ap (λ (x : List ℕ). fed_of x refused) left ∙ sym after ∙ ap after_next view,
       ap Frame front ∙ sym offer ∙ ap offer_of view,
+      front,
     )
