@@ -61,8 +61,6 @@ pub(crate) fn prepare(alloc: Global, judged: Judged, kept: Seq) -> Result<Prepar
         status: _,
         rolls,
     } = settings;
-    let rolls = rolls_text_of(me, &peers, rolls);
-    let keys = keys_of(me, peers.as_slice());
     let pulse = Pulse {
         timing: Timing {
             opened: now,
@@ -71,17 +69,17 @@ pub(crate) fn prepare(alloc: Global, judged: Judged, kept: Seq) -> Result<Prepar
         },
         publishing,
         list: list.copy(),
-        rolls,
+        rolls: rolls_text_of(me, &peers, rolls),
     };
-    let plan = plan_of(alloc, turns, journal, submit, peers, pulse)?;
     let settings = xl_core::Settings {
         me,
         list,
-        keys,
+        keys: keys_of(me, peers.as_slice()),
         limit,
         validating,
         speak,
     };
+    let plan = plan_of(alloc, turns, journal, submit, peers, pulse)?;
     match Core::open(alloc, settings, now, kept) {
         Ok(core) => Ok(Prepared { core, plan }),
         Err(_) => Err(OutOfMemory),
