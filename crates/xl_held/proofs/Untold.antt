@@ -247,8 +247,8 @@ module _ (names : List Named) (i m : ℕ) (n later : Node) (leaves : LeavesOther
       let proposal : List ℕ = proposal_heard names i (member_noted n m) later in
       let agreement : List ℕ = agreement_heard i (hearing_noted n m) later.round in
       sym (
-        ap (λ (xs : List ℕ). xs ++ rows_changed names i before later ++ ledgers ++ reports ++ round_changed names i (round_noted n.round) later.round ++ proposals_changed names i before later ++ agreement) settings
-        ∙ (ap (λ (xs : List ℕ). time ++ xs ++ ledgers ++ reports ++ round_changed names i (round_noted n.round) later.round ++ proposals_changed names i before later ++ agreement) rows
-        ∙ (ap (λ (xs : List ℕ). time ++ row ++ ledgers ++ reports ++ xs ++ proposals_changed names i before later ++ agreement) its_round
-        ∙ ap (λ (xs : List ℕ). time ++ row ++ ledgers ++ reports ++ pending ++ xs ++ agreement) proposals))
+      ap (λ (xs : List ℕ). xs ++ rows_changed names i before later ++ ledgers ++ reports ++ round_changed names i (round_noted n.round) later.round ++ proposals_changed names i before later ++ agreement) settings
+      ∙ (ap (λ (xs : List ℕ). time ++ xs ++ ledgers ++ reports ++ round_changed names i (round_noted n.round) later.round ++ proposals_changed names i before later ++ agreement) rows
+      ∙ (ap (λ (xs : List ℕ). time ++ row ++ ledgers ++ reports ++ xs ++ proposals_changed names i before later ++ agreement) its_round
+      ∙ ap (λ (xs : List ℕ). time ++ row ++ ledgers ++ reports ++ pending ++ xs ++ agreement) proposals))
       )

@@ -102,11 +102,7 @@ impl Noted {
 
 impl NotedHearing {
     /// What a node holds now of that. Refused only when memory runs out.
-    pub fn of(
-        alloc: Global,
-        node: &Node<Trie>,
-        member: NodeNo,
-    ) -> Result<NotedHearing, OutOfMemory>
+    pub fn of(alloc: Global, node: &Node<Trie>, member: NodeNo) -> Result<NotedHearing, OutOfMemory>
         ensures { IfOk result (λ now. hearing_seen now ≡ hearing_noted node.now member) }
     {
         let round = node.round();
