@@ -1,6 +1,6 @@
 -- What is held, after a piece and after a frame.
 use Rattle.std.proofs.Common.{◌≡◌, ℕ, ◌+◌, ◌-◌, ◌≤◌, Bool, List, ◌++◌, length, take, drop, append_assoc, sym, ap, ◌∙◌, arith}
-use Rattle.std.proofs.lemmas.List.{take_at, take-take, drop-take, drop-drop, drop-append-le, length-append, length-take, length-drop}
+use Rattle.std.proofs.lemmas.List.{take_at, drop-take, drop-drop, drop-append-le, length-append, length-take, length-drop}
 use Rattle.xl_base.specs.Putting.{Puts}
 use Rattle.std.specs.Prelude.{min, false, if◌then◌else◌}
 use Rattle.xl_wire.specs.Lengths.{longest_frame}
@@ -56,15 +56,13 @@ after_pushed xs ys piece start end from count refused fed view ok takes is added
 
 -- a frame that is handed out
 pub frame_handed : (xs : List ℕ) (start end n : ℕ) (refused : Bool) (raw : RawFrame) (fed : Fed) → fed_of (held_in xs start end) refused ≡ fed → IsFed xs start end → split_of (held_in xs start end) ≡ Whole raw → n ≡ span raw.body → n ≤ length (held_in xs start end)
-    → (fed_of (held_in xs (start + n) end) refused ≡ after_next fed) × (Frame (take (start + n - start) (drop start xs)) ≡ offer_of fed)
+    → (fed_of (held_in xs (start + n) end) refused ≡ after_next fed) × (Frame (take n (held_in xs start end)) ≡ offer_of fed)
 frame_handed xs start end n refused raw fed view ok split long there =
     let held = held_in xs start end in
     let inside : start + n ≤ end = omega (arith, there, ok.ordered, length-take (end - start) (drop start xs)) in
     let left : held_in xs (start + n) end ≡ drop (span raw.body) held = held_after xs start end n inside ∙ ap (λ (k : ℕ). drop k held) long in
     let after : after_next (fed_of held refused) ≡ fed_of (drop (span raw.body) held) refused = ap (λ (s : Split). after_split s (fed_of held refused)) split in
-    let offer : offer_of (fed_of held refused) ≡ Frame (take (span raw.body) held) = ap (λ (s : Split). offer_from s held) split in
-    let count : start + n - start ≡ span raw.body = omega (arith, long) in
-    let front : take (start + n - start) (drop start xs) ≡ take (span raw.body) held = ap (λ (k : ℕ). take k (drop start xs)) count ∙ sym (take-take (span raw.body) (end - start) (drop start xs) (omega (arith, inside, long))) in (
+    let offer : offer_of (fed_of held refused) ≡ Frame (take (span raw.body) held) = ap (λ (s : Split). offer_from s held) split in (
       ap (λ (x : List ℕ). fed_of x refused) left ∙ sym after ∙ ap after_next view,
-      ap Frame front ∙ sym offer ∙ ap offer_of view,
+      ap (λ (k : ℕ). Frame (take k held)) long ∙ sym offer ∙ ap offer_of view,
     )

@@ -11,5 +11,4 @@ pub mod Frames
 pub mod Writing
 pub mod Feeding
 pub mod Offers
-pub mod Cuts
 pub mod Streams

@@ -1,8 +1,7 @@
 ghost use Rattle.std.specs.Prelude.{◌≡◌, ◌+◌, ◌-◌, ◌≤◌, ◌++◌, [], false, length, IfOk};
-ghost use Rattle.xl_wire.specs.Cuts.{IsCut};
 ghost use Rattle.xl_wire.specs.Feeding.{held_in, taken_of, after_push, offer_of};
 
-use crate::{LONGEST_FRAME, Parted, WireRefusal, split};
+use crate::{LONGEST_FRAME, Parted, Raw, WireRefusal, split};
 use std::alloc::Global;
 use std::marker::Model;
 use xl_base::{OutOfMemory, put};
@@ -10,8 +9,8 @@ use xl_base::{OutOfMemory, put};
 /// What a feed hands out.
 #[derive(Clone, Copy)]
 pub enum Next<'a> {
-    /// The bytes of the next whole frame.
-    Frame(&'a [u8]),
+    /// The next whole frame, and its bytes.
+    Frame(Raw<'a>, &'a [u8]),
     /// Less than a frame is held: this many bytes lack, first of the length and then of the frame.
     Need(usize),
     /// What is held begins no frame: Magic, Version, Kind or Length. No more is taken.
@@ -39,7 +38,7 @@ impl Model for Feed {
 
 impl Feed {
     ghost use Rattle.std.specs.Borrow.{sem};
-    ghost use Rattle.xl_wire.specs.Offers.{offer, GoesOn};
+    ghost use Rattle.xl_wire.specs.Offers.{offer, GoesOn, IsSplit};
 
     /// A feed that holds nothing. No later call takes memory.
     pub fn open(alloc: Global) -> Result<Feed, OutOfMemory>
@@ -73,38 +72,22 @@ impl Feed {
     /// After a refusal it answers the same.
     pub fn next(&mut self) -> Next<'_>
         ensures answer { offer result ≡ offer_of self.old }
+        // So that nobody needs to split the bytes again.
+        ensures parts { IsSplit result }
         ensures* after { sem 𝓛 (GoesOn self.entry) }
     {
-        let start = self.start;
-        match first_cut(&self.bytes[start..self.end]) {
-            Cut::Frame(length) => {
-                self.start = start + length;
-                Next::Frame(&self.bytes[start..start + length])
+        let held = &self.bytes[self.start..self.end];
+        match split(held) {
+            Parted::Whole(raw) => {
+                self.start += raw.length;
+                Next::Frame(raw, &held[..raw.length])
             }
-            Cut::Need(lack) => Next::Need(lack),
-            Cut::Refused(refusal) => {
+            Parted::Need(lack) => Next::Need(lack),
+            Parted::Refused(refusal) => {
                 self.refused = true;
                 Next::Refused(refusal)
             }
         }
-    }
-}
-
-/// Where bytes are cut.
-enum Cut {
-    /// After this many bytes, which are a frame.
-    Frame(usize),
-    Need(usize),
-    Refused(WireRefusal),
-}
-
-fn first_cut(bytes: &[u8]) -> Cut
-    ensures { IsCut result bytes.now }
-{
-    match split(bytes) {
-        Parted::Whole(raw) => Cut::Frame(raw.length),
-        Parted::Need(lack) => Cut::Need(lack),
-        Parted::Refused(refusal) => Cut::Refused(refusal),
     }
 }
 

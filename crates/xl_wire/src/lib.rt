@@ -7,7 +7,7 @@
 //! let length = encode(&Frame { from: 1, to: 2, body: Body::Validation(said), tag }, &mut room);
 //! let mut feed = Feed::open(alloc)?;
 //! assert_eq!(feed.push(&room[..length]), 87);
-//! assert!(matches!(feed.next(), Next::Frame(frame) if frame == &room[..length]));
+//! assert!(matches!(feed.next(), Next::Frame(_, frame) if frame == &room[..length]));
 //! assert!(matches!(decode(&room), Decoded::Whole(frame, 87) if frame.from == 1));
 //! ```
 #![tactic(auto)]

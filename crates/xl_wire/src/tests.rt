@@ -102,7 +102,7 @@ fn a_feed_hands_frames_out(rt: HostRuntime) -> Result<(), Fail> {
     let bytes = validation();
     let mut feed = Feed::open(rt.alloc())?;
     assert_eq!(rt; feed.push(&bytes), 87);
-    assert!(rt; matches!(feed.next(), Next::Frame(frame) if frame == bytes.as_slice()));
+    assert!(rt; matches!(feed.next(), Next::Frame(_, frame) if frame == bytes.as_slice()));
     assert_eq!(rt; feed.push(&[0x57]), 1);
     assert!(rt; matches!(feed.next(), Next::Refused(refusal) if refusal.code() == 1));
     Ok(())
