@@ -217,7 +217,7 @@ is_front n to room (Some g) done =
 -- FRAMES BEHIND FRAMES
 
 -- if not all of the first fit, none of the others does
-fits_front : (xs ys : Frames) (room : ℕ) → count_fitting xs room < length xs → count_fitting (xs ++ ys) room ≡ count_fitting xs room
+pub fits_front : (xs ys : Frames) (room : ℕ) → count_fitting xs room < length xs → count_fitting (xs ++ ys) room ≡ count_fitting xs room
 fits_front [] ys room lt = absurd (omega (arith, lt))
 fits_front (None ∷ xs) ys room lt = ap suc (fits_front xs ys room (omega (arith, lt)))
 fits_front (Some f ∷ xs) ys room lt =

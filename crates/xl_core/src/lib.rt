@@ -16,8 +16,8 @@
 //! `core_happens` says of its event. So nothing is said before the keeper has saved its sequence. No call after `open`
 //! except `reopen` takes memory.
 //!
-//! Cores of one network may share what they hash, by the calls that end with `_with`: what one of them hashed isn't hashed
-//! again by the next, and each call is the same as without.
+//! Cores of one network may share what they hash, by the calls that are handed `Hashes`: what one of them hashed isn't
+//! hashed again by the next, and no call does anything else by what is in there.
 //!
 //! ```
 //! let mut core = Core::open(alloc, settings, now, 0)?;

@@ -1,33 +1,27 @@
-ghost use Rattle.std.specs.Prelude.{◌≡◌, ◌≢◌, ◌↔◌, ◌<◌, ◌≤◌, ℕ, IfOk, IsSome, IsTrue, OnOk, OnErr, Some, Err, None};
+ghost use Rattle.std.specs.Prelude.{◌≡◌, ◌↔◌, ◌<◌, ◌≤◌, ℕ, IfOk, IsSome, OnOk, OnErr, Some, Err, None};
 ghost use Rattle.std.specs.Result.{result_err};
 ghost use Rattle.xl_base.specs.Moments.{greatest_millis};
 ghost use Rattle.xl_ledger.specs.Limits.{greatest_limit, least_limit};
 ghost use Rattle.xl_io.specs.Keepers.{Held};
-ghost use Rattle.xl_lists.specs.Lists.{is_on};
 ghost use Rattle.xl_tags.specs.Rings.{key_of};
 ghost use Rattle.xl_core.specs.Answers.{Done, Told};
 ghost use Rattle.xl_core.specs.Building.{said_items};
-ghost use Rattle.xl_core.specs.Core.{with_queues, core_happens, core_asks, after_reply};
+ghost use Rattle.xl_core.specs.Core.{with_queues, core_happens, core_asks};
 ghost use Rattle.xl_core.specs.Marks.{StayMarks};
 ghost use Rattle.xl_core.specs.Queues.{with_items};
-ghost use Rattle.xl_core.specs.declared.event.CoreEvent.TheVariants.{Issue, Frame, Timer, Submit, Greet, Stop, Stopped, Relist};
+ghost use Rattle.xl_core.specs.declared.event.CoreEvent.TheVariants.{Issue, Timer, Submit, Greet, Stop, Stopped, Relist};
 ghost use Rattle.xl_core.specs.Stops.{HoldsAtLeast, IsCovered, StaysCovered};
 ghost use Rattle.xl_core.specs.Keeping.{AsksSave, CountsFault, Holds, IsAsked, Saves};
-ghost use Rattle.xl_core.specs.Replies.{Answers, Issues, taken_answer, done_answer, was_kept};
+ghost use Rattle.xl_core.specs.Replies.{Answers, Issues, done_answer, was_kept};
 ghost use Rattle.xl_core.specs.Rest.{IsKeyed};
-ghost use Rattle.xl_core.specs.Hearing.{Carries, bytes_as_sealed, bytes_with, speech_of};
-ghost use Rattle.xl_core.specs.Node.{opened_node, settings_of, at_moment, asks_for, frame_refusal, key_refusal, speech_refusal, speech_reply, tx_refusal, IsOff};
+ghost use Rattle.xl_core.specs.Node.{opened_node, settings_of, at_moment, asks_for, key_refusal, tx_refusal, IsOff};
 ghost use Rattle.xl_core.specs.TimerParts.{Beaten, Concludes, CountsBeatFault, IsBuilt, asks_in, beat_was_kept};
 ghost use Rattle.xl_core.specs.Issuing.Save.{Kept};
-ghost use Rattle.xl_wire.specs.declared.body.Body.{Body};
-ghost use Rattle.xl_wire.specs.Raws.{RawFrame};
 ghost use Rattle.xl_core.specs.declared.refusal.Refusal.TheVariants.{NotAfter, IssuingOff};
 
-use crate::hearing::Tags;
-use crate::taken::UNHEARD;
 use crate::timer_answer::full_or_partial;
-use crate::timer_part::Built;
-use crate::{Hashes, Issued, Item, Node, Refusal, Report, Settings, Taken, TimerAnswer};
+use crate::timer_part::{Built, NOT_BEATEN, TimerPart};
+use crate::{Hashes, Issued, Item, Node, Refusal, Report, Settings, TimerAnswer};
 use std::alloc::Global;
 use std::marker::Model;
 use xl_base::{LedgerId, MOST_MEMBERS, Millis, NodeNo, OutOfMemory, Seq, TxId};
@@ -36,13 +30,12 @@ use xl_ledger::Branch;
 use xl_lists::List;
 use xl_queues::{Broadcast, Queue};
 use xl_rounds::Said;
-use xl_wire::Body;
 
 mod door;
 mod draining;
 mod first;
 mod greeting;
-mod hashing;
+mod hearing;
 mod marks;
 mod outgoing;
 mod readers;
@@ -146,93 +139,6 @@ impl<B: Branch + Drop> Core<B> {
         Ok(())
     }
 
-    /// Hears bytes that come, and says what was taken. What the node reports waits to be taken, and nothing is sent.
-    ///
-    /// Refused as the node refuses them. First the time is set, and rows expire; nothing else changes then.
-    pub fn frame(&mut self, now: Millis, bytes: &[u8]) -> Result<Taken, Refusal>
-        requires moment { now ≤ greatest_millis }
-        ensures step { Answers (core_happens self.old (Frame now bytes.now) Kept) self.new (taken_answer result) }
-        ensures refused { result_err result ≡ frame_refusal (at_moment now self.old.node) bytes.now }
-        // What another listed member seals is refused for what the node knows of it alone, and else it is taken.
-        ensures complete { (f : RawFrame) (body : Body) →
-            Carries self.old.node.keys self.old.node.list.members bytes.now f body →
-            result_err result ≡ speech_refusal (at_moment now self.old.node) f.from (speech_of body) }
-        ensures unchanged { OnErr result (self.new ≡ record self.old { node = at_moment now self.old.node }) }
-        ensures unsent { self.new.waiting ≡ self.old.waiting }
-        ensures stop { (held : Held) → IsCovered held self.old → IsCovered held self.new }
-    {
-        self.hear(now, Tags::Tested, bytes, &mut Hashes::none())
-    }
-
-    /// Hears bytes that come as if their sender had sealed them: the tag, the last 32 bytes of a frame, isn't looked at
-    /// and taken as the one under our key. If it is that one, this is `frame`, for less.
-    ///
-    /// It is for frames whose sender is known anyway, as those of a world: what comes over a link goes to `frame`.
-    ///
-    /// Refused as the node refuses, never for the tag. First the time is set, and rows expire; all else stays then.
-    pub fn frame_as_sealed(&mut self, now: Millis, bytes: &[u8]) -> Result<Taken, Refusal>
-        requires moment { now ≤ greatest_millis }
-        ensures step { Answers (core_happens self.old (Frame now (bytes_as_sealed self.old.node.keys bytes.now)) Kept)
-            self.new (taken_answer result) }
-        ensures refused { result_err result
-            ≡ frame_refusal (at_moment now self.old.node) (bytes_as_sealed self.old.node.keys bytes.now) }
-        ensures unchanged { OnErr result (self.new ≡ record self.old { node = at_moment now self.old.node }) }
-        ensures unsent { self.new.waiting ≡ self.old.waiting }
-        ensures stop { (held : Held) → IsCovered held self.old → IsCovered held self.new }
-    {
-        self.frame_as_sealed_with(now, bytes, &mut Hashes::none())
-    }
-
-    /// Hears a listed member's body as `frame` hears each frame that carries it, for less: it is for a world's frames.
-    /// Refused as the node refuses what is said. First the time is set, and rows expire; nothing else changes then.
-    pub fn frame_saying(
-        &mut self,
-        now: Millis,
-        from: NodeNo,
-        body: &Body<'_>,
-    ) -> Result<Taken, Refusal>
-        requires moment { now ≤ greatest_millis }
-        requires other { from ≢ self.old.node.me }
-        requires listed { IsTrue (is_on self.old.node.list.members from) }
-        ensures step { Answers (after_reply self.old (speech_reply (at_moment now self.old.node) from (speech_of body.now)))
-            self.new (taken_answer result) }
-        ensures carried { (bytes : _) (f : RawFrame) → f.from ≡ from →
-            Carries self.old.node.keys self.old.node.list.members bytes f body.now →
-            Answers (core_happens self.old (Frame now bytes) Kept) self.new (taken_answer result) }
-        ensures unchanged { OnErr result (self.new ≡ record self.old { node = at_moment now self.old.node }) }
-        ensures unsent { self.new.waiting ≡ self.old.waiting }
-    {
-        self.frame_saying_with(now, from, body, &mut Hashes::none())
-    }
-
-    /// Hears bytes, with the tag tested or assumed.
-    fn hear(
-        &mut self,
-        now: Millis,
-        tags: Tags,
-        bytes: &[u8],
-        hashes: &mut Hashes,
-    ) -> Result<Taken, Refusal>
-        requires moment { now ≤ greatest_millis }
-        ensures step { Answers (core_happens self.old (Frame now (bytes_with tags self.old.node.keys bytes.now)) Kept)
-            self.new (taken_answer result) }
-        ensures refused { result_err result
-            ≡ frame_refusal (at_moment now self.old.node) (bytes_with tags self.old.node.keys bytes.now) }
-        ensures unchanged { OnErr result (self.new ≡ record self.old { node = at_moment now self.old.node }) }
-        ensures unsent { self.new.waiting ≡ self.old.waiting }
-        ensures stop { (held : Held) → IsCovered held self.old → IsCovered held self.new }
-    {
-        let mut heard = UNHEARD;
-        self.node.hear(now, tags, bytes, hashes, &mut heard);
-        match &heard {
-            Ok(heard) => {
-                push_report(&mut self.untaken, &heard.report);
-                return Ok(heard.taken);
-            }
-            Err(why) => return Err(*why),
-        }
-    }
-
     /// Saves a sequence and issues its validation, which waits for every peer only after the save.
     ///
     /// Refused as the node refuses to issue; nothing waits then that didn't wait before.
@@ -291,6 +197,36 @@ impl<B: Branch + Drop> Core<B> {
         ensures stop { StaysCovered (K.held keeper.old) (K.held keeper.new) self.old self.new }
     {
         self.timer_with(now, keeper, &mut Hashes::none())
+    }
+
+    /// The same, and what was hashed lately isn't hashed again.
+    #[inline(never)] // in its caller each other event would clear places for its many values
+    fn timer_with<K: Keeper>(
+        &mut self,
+        now: Millis,
+        keeper: &mut K,
+        hashes: &mut Hashes,
+    ) -> TimerAnswer
+        requires moment { now ≤ greatest_millis }
+        ensures step { Beaten self.old now result self.new }
+        ensures fault { CountsBeatFault result (K.faults keeper.old) (K.faults keeper.new) }
+        ensures held { Holds (core_asks self.old (Timer now)) (beat_was_kept result)
+            (K.held keeper.old) (K.held keeper.new) }
+        ensures saves { AsksSave (core_asks self.old (Timer now)) (K.saves keeper.old) (K.saves keeper.new) }
+        ensures keeper { Saves K.save_gives (core_asks self.old (Timer now)) (beat_was_kept result)
+            keeper.old keeper.new }
+        ensures later { K.faults keeper.old ≤ K.faults keeper.new }
+        ensures stop { StaysCovered (K.held keeper.old) (K.held keeper.new) self.old self.new }
+    {
+        let mut part = NOT_BEATEN;
+        self.node.timer(now, hashes, &mut part);
+        match &part {
+            TimerPart::Quiet { answer, said } => {
+                push_said(&mut self.waiting, &mut self.marks, said);
+                return *answer;
+            }
+            TimerPart::Built(built) => return self.conclude(built, keeper),
+        }
     }
 
     /// Sends the header of a built ledger and validates it.

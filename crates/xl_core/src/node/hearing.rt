@@ -2,6 +2,7 @@ ghost use Rattle.std.specs.Prelude.{◌≡◌, ◌↔◌, ◌<◌, ◌≤◌, Is
 ghost use Rattle.std.specs.Result.{result_err};
 ghost use Rattle.xl_base.specs.Moments.{greatest_millis};
 ghost use Rattle.xl_lists.specs.Lists.{is_on};
+ghost use Rattle.xl_wire.specs.Heads.{parts, split_of};
 ghost use Rattle.xl_wire.specs.Raws.{raw_frame};
 ghost use Rattle.xl_base.specs.Refusals.{unless_refused};
 ghost use Rattle.xl_ledger.specs.Chains.{Joins};
@@ -55,22 +56,32 @@ impl<B: Branch + Drop> Node<B> {
         ensures others { HearsOthers self.old bytes.now }
     {
         let mut heard = UNHEARD;
-        self.hear(now, Tags::Tested, bytes, &mut Hashes::none(), &mut heard);
+        let parted = split(bytes);
+        self.hear(
+            now,
+            Tags::Tested,
+            &parted,
+            bytes,
+            &mut Hashes::none(),
+            &mut heard,
+        );
         heard
     }
 
-    /// Hears as `frame` does, with the tag tested or assumed. What comes of it is large, so it is written where it is
-    /// to stand, here and in each call below.
+    /// Hears as `frame` does what was split off the bytes, with the tag tested or assumed. What comes of it is large, so
+    /// it is written where it is to stand, here and in each call below.
     #[inline(never)]
     pub(crate) fn hear(
         &mut self,
         now: Millis,
         tags: Tags,
+        parted: &Parted<'_>,
         bytes: &[u8],
         hashes: &mut Hashes,
         heard: &mut Result<Heard, Refusal>,
     )
         requires moment { now ≤ greatest_millis }
+        requires parted { parts parted.now ≡ split_of bytes.now }
         ensures exact { hear_reply heard.new self.new
             ≡ happens self.old (Frame now (bytes_with tags self.old.keys bytes.now)) Kept }
         ensures refused { result_err heard.new
@@ -81,7 +92,7 @@ impl<B: Branch + Drop> Node<B> {
         self.advance(now);
         // Its keys are its own.
         let _ = &self.keys;
-        match &split(bytes) {
+        match parted {
             Parted::Whole(raw) => self.hear_frame(tags, raw, bytes, hashes, heard),
             Parted::Need(lack) => *heard = Err(Refusal::Short(*lack)),
             Parted::Refused(why) => *heard = Err(Refusal::Frame(*why)),

@@ -44,16 +44,7 @@ fn tell_beat(beat: &TimerAnswer, answer: &mut CoreAnswer)
 impl<B: Branch + Drop> Core<B> {
     /// Something happens at the core, and what is told of it is put into its last place. This is the one place in which
     /// the calls are told apart; each of them says more of its own event.
-    pub fn happen<K: Keeper>(&mut self, deed: &Deed<'_>, keeper: &mut K, answer: &mut CoreAnswer)
-        requires may { MayHappen self.old deed.now }
-        ensures { Happens K.held K.saves K.faults K.save_gives
-            self.old (event_for self.old deed.now) self.new answer.new keeper.old keeper.new }
-    {
-        self.happen_with(deed, keeper, &mut Hashes::none(), answer);
-    }
-
-    /// The same, and what was hashed lately isn't hashed again.
-    pub fn happen_with<K: Keeper>(
+    pub fn happen<K: Keeper>(
         &mut self,
         deed: &Deed<'_>,
         keeper: &mut K,
@@ -71,7 +62,7 @@ impl<B: Branch + Drop> Core<B> {
             ),
             Deed::Frame { now, bytes } => tell_taken(self.frame(now, bytes), answer),
             Deed::Sealed { now, bytes } => tell_taken(
-                self.frame_as_sealed_with(now, bytes, hashes),
+                self.frame_as_sealed(now, bytes, hashes),
                 answer,
             ),
             Deed::Timer { now } => tell_beat(&self.timer_with(now, keeper, hashes), answer),

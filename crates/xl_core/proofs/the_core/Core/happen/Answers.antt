@@ -11,7 +11,7 @@ use Rattle.xl_core.specs.Issuing.Save.{Kept}
 use Rattle.xl_core.specs.Replies.{Answers, done_answer, save_in, taken_answer}
 use Rattle.xl_core.specs.TimerParts.{save_at}
 use Rattle.xl_core.proofs.Doing.{beat_risen, by_call, by_unasked, issue_risen, of_deed, same_save_told}
-use Rattle.xl_core.proofs.the_core.Core.happen_with.Goals as goal
+use Rattle.xl_core.proofs.the_core.Core.happen.Goals as goal
 
 pub returns-in-Issue : goal.returns-in-Issue
 returns-in-Issue g c =
@@ -27,8 +27,8 @@ returns-in-Frame g c =
 
 pub returns-in-Sealed : goal.returns-in-Sealed
 returns-in-Sealed g c =
-    of_deed g.K.Keeper.held g.K.Keeper.saves g.K.Keeper.faults g.K.Keeper.save_gives c.args.self.now c.frame_as_sealed_with.new.self c.args.deed.now (deed.Sealed c.in-Sealed.now c.in-Sealed.bytes) c.tell_taken-in-Sealed.new.answer c.args.keeper.now c.args.keeper.now c.in-Sealed.is
-    (by_unasked g.K.Keeper.held g.K.Keeper.saves g.K.Keeper.faults g.K.Keeper.save_gives c.args.self.now c.frame_as_sealed_with.new.self (Frame c.in-Sealed.now (bytes_as_sealed c.args.self.now.node.keys c.in-Sealed.bytes.now)) c.tell_taken-in-Sealed.new.answer c.args.keeper.now (taken_answer c.frame_as_sealed_with.result) refl c.tell_taken-in-Sealed.ensures c.frame_as_sealed_with.ensures.step c.frame_as_sealed_with.ensures.stop)
+    of_deed g.K.Keeper.held g.K.Keeper.saves g.K.Keeper.faults g.K.Keeper.save_gives c.args.self.now c.frame_as_sealed.new.self c.args.deed.now (deed.Sealed c.in-Sealed.now c.in-Sealed.bytes) c.tell_taken-in-Sealed.new.answer c.args.keeper.now c.args.keeper.now c.in-Sealed.is
+    (by_unasked g.K.Keeper.held g.K.Keeper.saves g.K.Keeper.faults g.K.Keeper.save_gives c.args.self.now c.frame_as_sealed.new.self (Frame c.in-Sealed.now (bytes_as_sealed c.args.self.now.node.keys c.in-Sealed.bytes.now)) c.tell_taken-in-Sealed.new.answer c.args.keeper.now (taken_answer c.frame_as_sealed.result) refl c.tell_taken-in-Sealed.ensures c.frame_as_sealed.ensures.step c.frame_as_sealed.ensures.stop)
 
 pub returns-in-Timer : goal.returns-in-Timer
 returns-in-Timer g c =

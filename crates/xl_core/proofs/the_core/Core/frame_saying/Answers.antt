@@ -13,7 +13,7 @@ use Rattle.xl_core.specs.Core.{Core, after_reply}
 use Rattle.xl_core.specs.Replies.{Answers, hear_reply, taken_answer}
 use Rattle.xl_core.proofs.Saying.{carried_reply}
 use Rattle.xl_core.proofs.Stepping.{heard_step, refused_step}
-use Rattle.xl_core.proofs.the_core.Core.frame_saying_with.Goals as goal
+use Rattle.xl_core.proofs.the_core.Core.frame_saying.Goals as goal
 
 pub returns-in-Ok-clause-step : goal.returns-in-Ok-clause-step
 returns-in-Ok-clause-step g c =
