@@ -17,7 +17,7 @@ use crate::reply_text::ReplyText;
 use crate::saving::EntryKeeper;
 use std::alloc::Global;
 use xl_base::{LedgerId, NodeNo, OutOfMemory};
-use xl_core::{Core, CoreAnswer, CoreEvent, Deed, Report};
+use xl_core::{Core, CoreAnswer, CoreEvent, Deed, Hashes, Report};
 use xl_trie::Trie;
 use xl_wire::LONGEST_FRAME;
 
@@ -54,7 +54,7 @@ fn reply_to_deed<T: ReplyText>(
         core.new (answer_of answer.new) keeper.new.asked }
     ensures keys { core.new.node.keys ≡ core.old.node.keys }
 {
-    core.happen(deed, keeper, answer);
+    core.happen(deed, keeper, &mut Hashes::none(), answer);
     push_answer(alloc, text, answer)
 }
 

@@ -136,8 +136,7 @@ impl Place {
             fate,
             asked: None,
         };
-        self.core
-            .happen_with(deed, &mut fated, hashes, &mut answer.told);
+        self.core.happen(deed, &mut fated, hashes, &mut answer.told);
         self.disk = fated.disk;
         answer.asked = fated.asked;
         note_said(me, deed, &answer.told, &mut answer.said);

@@ -149,7 +149,7 @@ impl Place {
         answer.report = None;
         answer.relisted = false;
         tell_taken(
-            self.core.frame_saying_with(now, from, body, hashes),
+            self.core.frame_saying(now, from, body, hashes),
             &mut answer.told,
         );
         take_report(&mut self.core, &mut answer.report);

@@ -17,22 +17,22 @@ use Rattle.xl_world.specs.World.{reply_at}
 use Rattle.xl_world.proofs.Doing.{happens_does, report_left, said_so, set_so, untaken_then}
 use Rattle.xl_world.proofs.Taking.{few_reports}
 use Rattle.xl_world.proofs.place.Place.happens.Goals as goal
-use Rattle.xl_world.proofs.place.Place.happens.Goals.{After-happen_with}
+use Rattle.xl_world.proofs.place.Place.happens.Goals.{After-happen}
 
 -- what it does
-does : (c : After-happen_with) → Does c.args.self.now.core (deed_event c.args.self.now.core.node.me c.args.deed.now) (record { disk = c.args.self.now.disk; fate = c.args.fate; asked = None }) c.happen_with.new.self c.happen_with.new.answer c.happen_with.new.keeper
+does : (c : After-happen) → Does c.args.self.now.core (deed_event c.args.self.now.core.node.me c.args.deed.now) (record { disk = c.args.self.now.disk; fate = c.args.fate; asked = None }) c.happen.new.self c.happen.new.answer c.happen.new.keeper
 does c =
-    subst (λ (keys : Ring). Does c.args.self.now.core (event_under keys c.args.deed.now) (record { disk = c.args.self.now.disk; fate = c.args.fate; asked = None }) c.happen_with.new.self c.happen_with.new.answer c.happen_with.new.keeper) c.requires.rested.keys
-    (happens_does c.args.self.now.core c.happen_with.new.self (event_under c.args.self.now.core.node.keys c.args.deed.now) c.happen_with.new.answer (record { disk = c.args.self.now.disk; fate = c.args.fate; asked = None }) c.happen_with.new.keeper c.happen_with.ensures)
+    subst (λ (keys : Ring). Does c.args.self.now.core (event_under keys c.args.deed.now) (record { disk = c.args.self.now.disk; fate = c.args.fate; asked = None }) c.happen.new.self c.happen.new.answer c.happen.new.keeper) c.requires.rested.keys
+    (happens_does c.args.self.now.core c.happen.new.self (event_under c.args.self.now.core.node.keys c.args.deed.now) c.happen.new.answer (record { disk = c.args.self.now.disk; fate = c.args.fate; asked = None }) c.happen.new.keeper c.happen.ensures)
 
-pub happen_with-requires : goal.happen_with-requires
-happen_with-requires c = record { may = subst (λ (keys : Ring). MayUnder keys c.args.deed.now) (sym c.requires.rested.keys) c.requires.may }
+pub happen-requires : goal.happen-requires
+happen-requires c = record { may = subst (λ (keys : Ring). MayUnder keys c.args.deed.now) (sym c.requires.rested.keys) c.requires.may }
 
 pub take_report-requires-clause-few : goal.take_report-requires-clause-few
 take_report-requires-clause-few c =
     let place = c.args.self.now in
     let e = deed_event place.core.node.me c.args.deed.now in
-    let d = (goal.at.take_report-requires-clause-few c).After-happen_with in
+    let d = (goal.at.take_report-requires-clause-few c).After-happen in
     omega (
       arith,
       ap length (ap (λ (k : Core). k.untaken.items) (does d).core ∙ untaken_then place.core place.core.node.me c.args.deed.now (answer_of place.disk c.args.fate) c.requires.rested.untaken),
@@ -41,15 +41,15 @@ take_report-requires-clause-few c =
 
 pub returns-clause-place : goal.returns-clause-place
 returns-clause-place c =
-    let d = (goal.at.returns-clause-place c).After-happen_with in
+    let d = (goal.at.returns-clause-place c).After-happen in
     let place = c.args.self.now in
     let e : CoreEvent = deed_event place.core.node.me c.args.deed.now in
-    ap (λ (k : Core). let p : Place = record { core = k; disk = c.happen_with.new.keeper.disk } in p) (c.take_report.ensures.core ∙ ap handed_out (does d).core)
+    ap (λ (k : Core). let p : Place = record { core = k; disk = c.happen.new.keeper.disk } in p) (c.take_report.ensures.core ∙ ap handed_out (does d).core)
     ∙ ap (λ (x : Disk). let p : Place = record { core = handed_out (reply_at place e c.args.fate).core; disk = x } in p) (does d).disk
 
 pub returns-clause-answer : goal.returns-clause-answer
 returns-clause-answer c =
-    let did = does ((goal.at.returns-clause-answer c).After-happen_with) in
+    let did = does ((goal.at.returns-clause-answer c).After-happen) in
     let place = c.args.self.now in
     let i : ℕ = place.core.node.me in
     let d : Deed = c.args.deed.now in
@@ -59,7 +59,7 @@ returns-clause-answer c =
     record {
       told = did.says;
       asked = did.asked refl;
-      said = c.note_said.ensures ∙ (ap (λ (m : ℕ). said_in m d (answer_of_told c.happen_with.new.answer)) me ∙ (ap (said_in i d) did.says ∙ said_so place.core i d save));
-      report = report_left c.happen_with.new.self r c.take_report.new.report (untaken_then place.core i d save c.requires.rested.untaken) did.core c.take_report.ensures.report;
+      said = c.note_said.ensures ∙ (ap (λ (m : ℕ). said_in m d (answer_of_told c.happen.new.answer)) me ∙ (ap (said_in i d) did.says ∙ said_so place.core i d save));
+      report = report_left c.happen.new.self r c.take_report.new.report (untaken_then place.core i d save c.requires.rested.untaken) did.core c.take_report.ensures.report;
       set = ap (λ (b : Bool). if b then Some (list_now r.core.node) else None) (c.is_relisted-answer.ensures ∙ ap (is_relisted d) did.says) ∙ set_so place.core i d save;
     }

@@ -19,7 +19,7 @@ take_report-requires-clause-few c =
     let reply : Reply = speech_reply (at_moment c.args.now core.node) c.args.from (speech_of c.args.body.now) in
     omega (
       arith,
-      ap length (ap (λ (k : Core). k.untaken.items) c.frame_saying_with.ensures.step.core ∙ untaken_is core.untaken reply.report c.requires.rested.untaken),
+      ap length (ap (λ (k : Core). k.untaken.items) c.frame_saying.ensures.step.core ∙ untaken_is core.untaken reply.report c.requires.rested.untaken),
       few_reports reply.report,
     )
 
@@ -27,17 +27,17 @@ pub returns-clause-place : goal.returns-clause-place
 returns-clause-place c = λ bytes carries.
     let place : Place = c.args.self.now in
     ap (λ (k : Core). let p : Place = record { core = k; disk = place.disk } in p)
-    (c.take_report.ensures.core ∙ ap handed_out (c.frame_saying_with.ensures.carried bytes carries.0 carries.1 carries.2).core)
+    (c.take_report.ensures.core ∙ ap handed_out (c.frame_saying.ensures.carried bytes carries.0 carries.1 carries.2).core)
 
 pub returns-clause-answer : goal.returns-clause-answer
 returns-clause-answer c = λ bytes carries.
     let place : Place = c.args.self.now in
-    let did = c.frame_saying_with.ensures.carried bytes carries.0 carries.1 carries.2 in
+    let did = c.frame_saying.ensures.carried bytes carries.0 carries.1 carries.2 in
     let r = reply_at place (Frame c.args.now bytes) Saved in
     record {
       told = c.tell_taken.ensures ∙ did.answer;
       asked = refl;
       said = ap (option_map (said_by place.core.node.me)) (sym (frame_quiet place.core.node c.args.now bytes));
-      report = report_left c.frame_saying_with.new.self r c.take_report.new.report (untaken_is place.core.untaken r.report c.requires.rested.untaken) did.core c.take_report.ensures.report;
+      report = report_left c.frame_saying.new.self r c.take_report.new.report (untaken_is place.core.untaken r.report c.requires.rested.untaken) did.core c.take_report.ensures.report;
       set = refl;
     }
