@@ -2,6 +2,7 @@ ghost use Rattle.std.specs.Prelude.{◌≡◌, ◌≤◌, length, IfOk, IfErr, I
 ghost use Rattle.xl_base.specs.Moments.{greatest_millis};
 ghost use Rattle.xl_tags.specs.Rings.{key_of};
 ghost use Rattle.xl_wire.specs.Lengths.{longest_frame};
+ghost use Rattle.xl_wire.specs.Raws.{SpellsRaw, raw_frame};
 ghost use Rattle.xl_core.specs.Answers.{Beats, Done, Told};
 ghost use Rattle.xl_core.specs.Replies.{taken_answer, done_answer};
 ghost use Rattle.xl_core.specs.declared.event.CoreEvent.TheVariants.{Issue, Frame, Timer, Submit, Greet, Stop, Stopped, Relist};
@@ -17,6 +18,7 @@ use xl_core::{CoreEvent, Refusal, Report, Taken, TimerAnswer};
 use xl_io::Keeper;
 use xl_ledger::Branch;
 use xl_lists::List;
+use xl_wire::Raw;
 
 /// The core's calls. Each takes one turn, which may have to wait for others, and answers what the core's step answers
 /// after all that the pass has then seen. If there is no turn nothing happens at the core.
@@ -39,6 +41,30 @@ impl<B: Branch + Drop, K: Keeper + Drop> Store<B, K> {
         let copy = copy_of(self.alloc, bytes)?;
         let (mut turn, page) = self.enter(rt, pass, CoreEvent::Frame { now, bytes: copy })?;
         let answer = turn.object.core.frame(now, bytes);
+        self.finish(pass, turn, page);
+        Ok(answer)
+    }
+
+    /// Hears a whole frame that was split off already, as `frame` hears its bytes.
+    pub fn whole_frame<W: Wait>(
+        &self,
+        rt: &W,
+        pass: &mut Pass,
+        now: Millis,
+        raw: &Raw<'_>,
+        bytes: &[u8],
+    ) -> Result<Result<Taken, Refusal>, StoreEnd>
+        requires pass { IsOf self.now pass.old }
+        requires moment { now ≤ greatest_millis }
+        requires whole { SpellsRaw (raw_frame raw.now) bytes.now }
+        ensures pass { IsOf self.now pass.new }
+        ensures called { IfOk result (λ answer.
+            Called self.now pass.old (Frame now bytes.now) (taken_answer answer) pass.new) }
+        ensures refused { IfErr result (λ end. Refused self.now pass.old end pass.new) }
+    {
+        let copy = copy_of(self.alloc, bytes)?;
+        let (mut turn, page) = self.enter(rt, pass, CoreEvent::Frame { now, bytes: copy })?;
+        let answer = turn.object.core.whole_frame(now, raw, bytes);
         self.finish(pass, turn, page);
         Ok(answer)
     }
