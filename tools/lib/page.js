@@ -1,6 +1,9 @@
 'use strict'
-const run = JSON.parse(document.getElementById('data').textContent)
 const byId = id => document.getElementById(id)
+const given = JSON.parse(byId('run').textContent)
+// what `tell` told of the run, drawn and in words
+const shown = new Steps(new Story(given.text, given.status, given.told, given.why), given.name, given.window)
+const run = shown.data()
 const steps = run.steps, numbers = Object.keys(run.nodes).map(Number)
 const members = run.members
 const first = steps.length ? steps[0].moment : 0
@@ -44,8 +47,18 @@ const head = (words, scope, kind) => {
 }
 const colour = ledger => run.ledgers[ledger][2] === 'mute' ? 'var(--mute)' : `var(--${run.ledgers[ledger][2]})`
 const nameOf = number => (run.liars.includes(number) ? 'liar ' : '') + number
-const seconds = ms => (ms / 1000).toLocaleString('en-US', {maximumFractionDigits: 3}) + ' s'
 const count = (n, what) => `${n} ${what}${n === 1 ? '' : 's'}`
+
+function drawHead() {
+  document.title = document.querySelector('h1').textContent = shown.timeline.title
+  byId('verdict').textContent = shown.words.verdict()
+  byId('verdict').classList.add(shown.words.kind())
+  byId('file').textContent = shown.name
+  byId('picture').insertAdjacentHTML('beforeend', shown.picture)
+  byId('notes').append(...shown.notes().map(it => make('p', it)), make('p', OF.ofOneSequence, 'keys'))
+  byId('about').append(...firstComment(shown.story.lines).map(it => make('p', it)))
+}
+drawHead()
 
 function ledgerWords(pair, none) {
   if (!pair) return make('span', none, 'none')

@@ -41,6 +41,7 @@ class Report {
     this.bad = status === 3 ? words.pop().slice(1) : null
     this.short = words.filter(it => it[0] === 'short').map(it => it.slice(1).map(Number))
     this.forged = words.filter(it => it[0] === 'forged').reduce((sum, it) => sum + Number(it[1]), 0)
+    this.fork = words.find(it => it[0] === 'fork')?.slice(1)
     this.lastLine = this.bad ? Number(this.bad[0]) - 1 : Infinity
   }
 }
