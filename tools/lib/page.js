@@ -68,6 +68,7 @@ function ledgerWords(pair, none) {
   return found
 }
 
+// The ledger that most full words in the row name, and how many: a count of what stands there, which decides nothing.
 function best(state) {
   const votes = {}
   let found = null
@@ -157,14 +158,14 @@ function drawRounds() {
     const state = states[at][node], round = state.round, row = make('tr')
     if (at && steps[at - 1].node === node) row.className = 'here'
     row.append(head('Node ' + node, 'row'))
-    const [phase, mode, pending, ours, positions] = round, held = Object.values(positions)
+    const [phase, mode, pending, ours, , agreement] = round
     const name = make('td', phase, 'fact')
     if (mode !== 'proposing') name.append(make('span', ', ' + mode, 'none'))
     const stand = make('td', undefined, 'fact'), set = make('span', ours ? run.sets[ours[0]][0] : '–')
     if (ours) set.title = setWords(ours)
     stand.append(set)
     row.append(name, make('td', pending, 'fact'), stand)
-    row.append(make('td', ours ? `${held.filter(it => it[3]).length}/${held.length}` : '–', 'fact'))
+    row.append(make('td', ours ? agreement.join('/') : '–', 'fact'))
     row.append(...members.map(member => positionCell(node, member, round, state.list)))
     return row
   }))

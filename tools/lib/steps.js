@@ -48,12 +48,13 @@ class Steps {
     return this.setPlaces.get(found)
   }
 
-  // A round: phase, mode, how many ids are pending, our position, and those of members with who agrees.
+  // A round: phase, mode, how many ids are pending, our position, those of members with whose set is ours, and how many
+  // of them agree.
   round(state) {
     const position = state.phase === 'open' ? null : state.position
     const ours = position && [this.set(position.set, state.set), position.sequence, position.close]
     const positions = ofMap(state.positions, it => [this.set(it.set), it.sequence, it.close, Number(position !== null && it.set === position.set)])
-    return [state.phase, state.mode, state.pending.length, ours, positions]
+    return [state.phase, state.mode, state.pending.length, ours, positions, state.agreement]
   }
 
   // A row, with the line by which it came, and the event: below 0 if it came before the window.

@@ -122,7 +122,7 @@ class Happening {
 
 const OPENED = {
   time: 0, quorum: 0, members: [], kept: 0, failed: null, relisted: false, report: null, prefers: null, on: ROOT, rows: new Map(),
-  phase: 'open', mode: 'proposing', pending: [], set: [], position: null, positions: new Map(),
+  phase: 'open', mode: 'proposing', pending: [], set: [], position: null, positions: new Map(), agreement: [0, 0],
 }
 
 function withEntry(map, key, value) {
@@ -188,6 +188,7 @@ class Held {
       case 'position': return {position: this.position(words)}
       case 'set': case 'pending': return {[word]: this.ids(words[0])}
       case 'proposal': return {positions: this.member(state.positions, words, it => this.position(it))}
+      case 'agreement': return {agreement: words.map(Number)}
     }
     return {}
   }
