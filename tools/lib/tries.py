@@ -106,13 +106,10 @@ class Sent:
         self.program, self.receivers, self.is_asked = program, [], True
 
     def after(self, lines):
-        """The receivers of all frames that these lines send."""
+        """The receivers of all frames that these lines send. A refused line ends the try's own run too, which is said then."""
         if not self.is_asked:
             status, told = tell(self.program, '\n'.join([*lines, '']))
-            report = report_of(status, told)
-            schedules.stop_on_problem(self.program, report)
-            if report.bad:
-                command.stop('%s refuses line %s of a try: code %s, %s' % (self.program, *report.bad))
+            schedules.stop_on_problem(self.program, report_of(status, told))
             self.receivers = [int(line.split()[3]) for line in told if line.startswith('sent ')]
             self.is_asked = True
         return self.receivers
