@@ -6,8 +6,8 @@ import collections
 import command
 import refusals
 import schedules
+from beside import Beside
 from slack import slacks
-from told import report_of, tell
 
 READ = ('xl-schedule', 'node', 'liar', 'limit', 'at', 'name')
 LAST_MOMENT, LAST_SECOND = 4 * 10**12, 2**32 - 1
@@ -99,20 +99,25 @@ class Lists:
             self.numbers.append(number)
 
 
-class Sent:
+class Sent(Beside):
     """Whom each frame of a try was sent to, as `xl tell` says it: a try names frames by their numbers."""
 
-    def __init__(self, program):
-        self.program, self.receivers, self.is_asked = program, [], True
+    def __init__(self, lists):
+        super().__init__(lists.program)
+        self.program, self.node, self.taken = lists.program, min(lists.network.nodes), 0
+        self.receivers, self.has_news = [], False
 
     def after(self, lines):
         """The receivers of all frames that these lines send. A refused line ends the try's own run too, which is said then."""
-        if not self.is_asked:
-            status, told = tell(self.program, '\n'.join([*lines, '']))
-            schedules.stop_on_problem(self.program, report_of(status, told))
-            self.receivers = [int(line.split()[3]) for line in told if line.startswith('sent ')]
-            self.is_asked = True
+        if self.has_news:
+            for line in lines[self.taken :]:
+                self.put(line)
+            self.receivers += [int(words[3]) for words in self.ask(self.node) if words[0] == b'sent']
+            self.taken, self.has_news = len(lines), False
         return self.receivers
+
+    def end(self):
+        schedules.stop_on_problem(self.program, schedules.Report(self.close(), ''))
 
 
 class Weather:
@@ -138,13 +143,14 @@ class Try:
     def __init__(self, lists, dice, heading, restarts=True):
         self.lists, self.dice, self.weather = lists, dice, Weather(dice, restarts)
         self.lines, self.moment = ['xl-schedule 1', '# ' + heading, *lists.lines], lists.moment
-        self.sent = Sent(lists.program)
+        self.sent = Sent(lists)
         sequence = dice.choice((1, 1, 1, 5))
         for _ in range(dice.choice((1, 1, 2, 3))):
             self.hold_round(*self.choose_pair(), sequence)
             sequence += dice.choice((1, 1, 2))
             if self.happens(0.5):
                 self.go_to(self.moment + dice.choice((1, 1000, 4000, 200000)))
+        self.sent.end()
 
     @property
     def receivers(self):
@@ -171,7 +177,7 @@ class Try:
 
     def issue(self, node, sequence, name, flag='full', torn=()):
         self.lines.append(' '.join([*torn, 'issue %d %d %s %s' % (node, sequence, name, flag)]))
-        self.sent.is_asked = False
+        self.sent.has_news = True
 
     def vote(self, node, sequence, ours, other):
         """One node's vote, and what may go wrong around it."""

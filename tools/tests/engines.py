@@ -66,3 +66,8 @@ def made(runs, body):
 def steps_of(runs):
     """What a page shows of each run: its steps, and what each node holds before them."""
     return made(runs, 'return new Steps(new Story(run.text, run.status, run.told), run.name, run.window).data()')
+
+
+def ends_of(runs):
+    """How the page of each run says that it ended: the kind, the verdict, and the notes below the report."""
+    return made(runs, 'const it = new Steps(new Story(run.text, run.status, run.told), run.name); return [it.words.kind(), it.words.verdict(), it.notes()]')
