@@ -8,7 +8,7 @@ from dataclasses import dataclass
 
 from told import report_of, tell
 
-FIRST_SECOND = 16  # before that no node's round has anything to close
+FIRST_SECOND = 16  # a choice: earlier seconds only make tries longer
 HEARD, LOST = ['timers', 'all'], ['timers', 'drop']
 
 
