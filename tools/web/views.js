@@ -45,11 +45,13 @@ function matrixOf(text) {
   const pairs = linesOf(text).map(it => it.split(' ')).filter(it => it[0] === 'pair')
   const numbers = [...new Set(pairs.flatMap(it => [it[1], it[2]]))].sort((a, b) => a - b)
   const cells = new Map(pairs.map(it => [it[1] + ' ' + it[2], it]))
-  const head = element('tr', '', document.createElement('td'), ...numbers.map(it => element('th', '', it)))
-  const rows = numbers.map(one => element('tr', '', element('th', '', one), ...numbers.map(other => cellOf(cells.get(one + ' ' + other)))))
+  const head = element('tr', '', document.createElement('td'), ...numbers.map(it => headOf(it, 'col')))
+  const rows = numbers.map(one => element('tr', '', headOf(one, 'row'), ...numbers.map(other => cellOf(cells.get(one + ' ' + other)))))
   const caption = element('caption', '', 'Both quorums together, and what they must exceed so that no two reports of one sequence differ. A red pair is short.')
   return element('table', '', caption, head, ...rows)
 }
+
+const headOf = (words, scope) => Object.assign(element('th', '', words), {scope})
 
 function cellOf(pair) {
   if (!pair) return document.createElement('td')
@@ -60,19 +62,24 @@ function cellOf(pair) {
   return cell
 }
 
+const ENDS = {fork: 'wrong', branches: 'warned', quiet: '', agree: 'good'}
 const OF_REPORTS = ['replay', 'tell', 'picture', 'steps', 'gen']
 
 // What is said of a run in one sentence, and whether it is good.
-function verdictOf(command, told, text) {
+function verdictOf(command, told, text, story) {
   if (told.fault) return [`The program ended: ${told.fault}`, 'wrong']
   if (told.status === 6) return ['Memory ran out.', 'wrong']
   if (told.status === 3) return [refusalOf(command, lastWords(text)), 'wrong']
   if (command === 'lists') return verdictOfLists(text)
   if (!OF_REPORTS.includes(command)) return ['All is written.', 'good']
+  if (story) return endOf(new Wording(story))
   const [, sequence, one, its, other, theirs] = lastWords(text)
   if (told.status === 1) return [`Fork at sequence ${sequence}: node ${one} reports ${its}, and node ${other} reports ${theirs}.`, 'wrong']
-  return ['Agreed: no two reports of one sequence differ.', 'good']
+  // a line for each report, or of `gen` their number
+  return /^full [1-9]/m.test(text) ? [OF.verdicts.agree, 'good'] : [OF.verdicts.quiet, '']
 }
+
+const endOf = words => [words.verdict(), ENDS[words.kind()]]
 
 // A picture is drawn where its style reaches nothing else: as wide as the pane, if its words are still read then.
 function drawnPicture(text) {
@@ -83,17 +90,26 @@ function drawnPicture(text) {
 }
 
 const VIEWS = {
-  picture(story, name) {
+  picture({story, run}) {
     const brief = story.events.length > MOST_EVENTS
-    return drawnPicture(new Timeline(story, {first: null, last: null, brief, bare: false, scheme: 'auto', compact: true}, name).draw())
+    return drawnPicture(new Timeline(story, {first: null, last: null, brief, bare: false, scheme: 'auto', compact: true}, run.name).draw())
   },
 
-  steps(story, name) {
+  steps({run}) {
     const frame = element('iframe', 'steps')
     frame.title = 'The run, step by step'
-    frame.srcdoc = new Steps(story, name).text(known.template)
+    frame.srcdoc = pageOf(run)
     return frame
   },
+}
+
+const inert = what => JSON.stringify(what).replace(/</g, '\\u003c')
+
+// The page of a run, as tools/page writes it.
+function pageOf(run) {
+  const {template, refusals, lines, said, drawing} = known
+  const values = {NAME: escaped(run.name), RUN: inert(run), KNOWN: inert({refusals, lines, said, drawing}), DRAWING: byId('drawing').textContent}
+  return template.split('@@').map((it, place) => place % 2 ? values[it] : it).join('')
 }
 
 function verdictOfLists(text) {
