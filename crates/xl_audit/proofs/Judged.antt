@@ -22,7 +22,7 @@ use Rattle.xl_audit.specs.declared.written.Written.{Written}
 use Rattle.xl_lines.specs.declared.machine.Verdict.TheVariants.{Good, Found}
 use Rattle.xl_lines.specs.Rules.{Told, Step as LineStep, refuses as line_refuses}
 use Rattle.xl_lines.specs.Told.{told_by, told_from, step_at, step_within}
-use Rattle.xl_audit.specs.Auditing.{Step, goes_on, wrong, refuses, beyond, judgement, entry_step, step, yes_line, no_line}
+use Rattle.xl_audit.specs.Auditing.{Step, goes_on, wrong, refuses, beyond, judgement, entry_step, yes_line, no_line}
 use Rattle.xl_audit.specs.Audits.{Auditing, cut_line, limits, line_step_of, rules}
 use Rattle.xl_audit.specs.Cuts.{Came, cut, whole, begins, came_at, entry_behind, last_step, led_last, likeness_at}
 use Rattle.xl_audit.specs.Leading.{Lead, leads, entry_lead, read_lead}

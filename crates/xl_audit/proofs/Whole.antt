@@ -17,10 +17,10 @@ use Rattle.xl_audit.specs.declared.judging.BadLine.TheVariants.{Refused}
 use Rattle.xl_audit.specs.declared.judging.Stage.TheVariants.{Heading, Setting, Keying, Judging}
 use Rattle.xl_audit.specs.Limits.{most_lines}
 use Rattle.xl_audit.specs.declared.opening.Opening.{Opening}
-use Rattle.xl_audit.specs.Auditing.{Step, goes_on, wrong, refuses, heading_step, set, keyed, opening_step, entry_step, keying_step, unless_keyless}
+use Rattle.xl_audit.specs.Auditing.{Step, goes_on, wrong, refuses, heading_step, set, keyed, opening_step, entry_step, unless_keyless}
 use Rattle.xl_audit.specs.Audits.{Auditing, audit_of, limits, line_step_of, rules, told_at_end}
 use Rattle.xl_audit.specs.Cuts.{Came, cut, whole, came_at, led_last}
-use Rattle.xl_audit.specs.Leading.{Lead, leads, entry_lead, opening_lead}
+use Rattle.xl_audit.specs.Leading.{leads, entry_lead, opening_lead}
 use Rattle.xl_audit.specs.Opening.{core_of, key_in, opening_in, unmet}
 use Rattle.xl_audit.specs.Texts.{TellKeys, IsJudged, TextIsJudged, YesOfTheText, NoOfTheText}
 use Rattle.xl_audit.specs.Verdicts.{AllButACut, AllRight, AreLines, FirstWrong, told_behind}
