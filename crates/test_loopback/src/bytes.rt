@@ -1,49 +1,67 @@
 // What is written comes, and what can't be used is refused.
-use crate::peers::{FRAME, byte_at, front, gives, link_of, opens, pair, takes};
+use crate::peers::{
+    FRAME, Peers, assert_each, byte_at, clock_of, dialler, front, gives, link_of, listener, opens,
+    takes, takes_front,
+};
 use std::alloc::Global;
 use std::test::Fail;
 use std::thread;
 use xl_io::Wrote;
 use xl_links::{Clock, Link, LinkRead, Opening, Way};
-use xl_tcp::SystemClock;
 
 #[test]
 fn bytes_pass_over_loopback(rt: HostRuntime) -> Result<(), Fail> {
-    let clock = SystemClock::new(rt.clone()?);
-    let Some((mut listening, mut dialling)) = pair(&rt)? else {
-        return Err(Fail::from("no link on loopback"));
-    };
+    let clock = clock_of(&rt)?;
+    let mut listening = listener(&rt)?;
+    let mut dialling = dialler(&rt, &listening)?;
     let mut bytes = [0; 100];
     for (place, byte) in bytes.iter_mut().enumerate() {
         *byte = byte_at(place);
     }
     let mut room = [0; 100];
-    let mut taken = 0;
-    let mut given = false;
-    thread::join_mut(
-        &rt,
-        &mut || taken = takes(&clock, &mut listening, &mut room),
-        &mut || given = gives(&clock, &mut dialling, &bytes),
-    );
-    assert!(rt; given);
-    assert_eq!(rt; taken, 100);
-    assert!(rt; room == bytes);
-    // Nothing more comes, and then the peer goes.
-    assert!(rt; listening.read(&mut room) == LinkRead::Idle);
+    // No peer is there yet.
+    let before = [
+        listening.open() == Opening::NotYet,
+        listening.read(&mut room) == LinkRead::End,
+        listening.write(b"x") == Wrote::Failed,
+    ];
+    let both = [
+        gives(&clock, &mut dialling, &bytes),
+        takes(&clock, &mut listening, &mut room) == 100,
+        room == bytes,
+        // Nothing more comes, and then the peer goes.
+        listening.read(&mut room) == LinkRead::Idle,
+    ];
     drop(dialling);
-    assert!(rt; listening.read(&mut room) == LinkRead::End);
-    assert!(rt; listening.open() == Opening::NotYet);
+    let after = [
+        listening.read(&mut room) == LinkRead::End,
+        listening.open() == Opening::NotYet,
+    ];
+    assert_each(&rt, &before);
+    assert_each(&rt, &both);
+    assert_each(&rt, &after);
+    Ok(())
+}
+
+/// How a link opens that dials where nobody listens any more.
+fn opens_without_peer(rt: &HostRuntime) -> Result<Opening, Fail> {
+    let listening = listener(rt)?;
+    let mut dialling = dialler(rt, &listening)?;
+    drop(listening);
+    Ok(dialling.open())
+}
+
+#[test]
+fn a_member_that_is_not_there_is_awaited(rt: HostRuntime) -> Result<(), Fail> {
+    assert!(rt; opens_without_peer(&rt)? == Opening::NotYet);
     Ok(())
 }
 
 /// How many bytes each of two peers writes before it reads any.
 const LONG: usize = 16_000_000;
 
-/// Opens a link and writes all the bytes, in whichever pieces they are taken.
-fn gives_all<C: Clock, L: Link>(clock: &C, link: &mut L, bytes: &[u8]) -> bool {
-    if !opens(clock, link) {
-        return false;
-    }
+/// Writes all the bytes, in whichever pieces they are taken.
+fn writes_all<L: Link>(link: &mut L, bytes: &[u8]) -> bool {
     let mut given = 0;
     for _ in 0..bytes.len() {
         if given >= bytes.len() {
@@ -58,7 +76,7 @@ fn gives_all<C: Clock, L: Link>(clock: &C, link: &mut L, bytes: &[u8]) -> bool {
 }
 
 /// Reads as many bytes as these, and says whether they are these.
-fn takes_all<L: Link>(link: &mut L, bytes: &[u8]) -> bool {
+fn reads_all<L: Link>(link: &mut L, bytes: &[u8]) -> bool {
     let mut room = [0; 8192];
     let mut rest = bytes;
     for _ in 0..bytes.len() {
@@ -76,6 +94,11 @@ fn takes_all<L: Link>(link: &mut L, bytes: &[u8]) -> bool {
     rest.is_empty()
 }
 
+/// Opens a link, writes all the bytes, and then reads as many and the same.
+fn exchanges<C: Clock, L: Link>(clock: &C, link: &mut L, bytes: &[u8]) -> bool {
+    opens(clock, link) && writes_all(link, bytes) && reads_all(link, bytes)
+}
+
 /// The frame, and behind it what repeats after 251 bytes.
 fn said(alloc: Global) -> Result<Vec<u8>, Fail> {
     let mut bytes = front().to_vec(alloc)?;
@@ -87,18 +110,15 @@ fn said(alloc: Global) -> Result<Vec<u8>, Fail> {
 
 #[test]
 fn two_peers_may_write_at_once(rt: HostRuntime) -> Result<(), Fail> {
-    let clock = SystemClock::new(rt.clone()?);
-    let Some((mut listening, mut dialling)) = pair(&rt)? else {
-        return Err(Fail::from("no link on loopback"));
-    };
+    let clock = clock_of(&rt)?;
     let bytes = said(rt.alloc())?;
+    let mut peers = Peers::new(&rt)?;
+    let (one, other) = (&mut peers.listening, &mut peers.first);
     let mut each = (false, false);
     thread::join_mut(
         &rt,
-        &mut || each.0 = gives_all(&clock, &mut listening, &bytes)
-            && takes_all(&mut listening, &bytes),
-        &mut || each.1 = gives_all(&clock, &mut dialling, &bytes)
-            && takes_all(&mut dialling, &bytes),
+        &mut || each.0 = exchanges(&clock, one, &bytes),
+        &mut || each.1 = exchanges(&clock, other, &bytes),
     );
     assert!(rt; each == (true, true));
     Ok(())
@@ -106,76 +126,66 @@ fn two_peers_may_write_at_once(rt: HostRuntime) -> Result<(), Fail> {
 
 #[test]
 fn a_peer_that_does_not_read_is_left(rt: HostRuntime) -> Result<(), Fail> {
-    let clock = SystemClock::new(rt.clone()?);
-    let Some((mut listening, mut dialling)) = pair(&rt)? else {
-        return Err(Fail::from("no link on loopback"));
-    };
+    let clock = clock_of(&rt)?;
     let bytes = said(rt.alloc())?;
-    let mut given = true;
-    let mut opened = false;
-    thread::join_mut(
-        &rt,
-        &mut || opened = opens(&clock, &mut listening),
-        &mut || given = gives_all(&clock, &mut dialling, &bytes),
-    );
-    assert!(rt; opened);
-    assert!(rt; !given);
+    let mut peers = Peers::new(&rt)?;
+    let steps = [
+        gives(&clock, &mut peers.first, &front()),
+        opens(&clock, &mut peers.listening),
+        !writes_all(&mut peers.first, &bytes),
+    ];
+    assert_each(&rt, &steps);
     Ok(())
+}
+
+/// Writes two pieces, with a moment behind each.
+fn writes_pieces<C: Clock, L: Link>(clock: &C, link: &mut L) {
+    for piece in [b"abc", b"def"] {
+        link.write(piece);
+        clock.wait(10);
+    }
 }
 
 #[test]
 fn a_read_gathers_what_comes_soon(rt: HostRuntime) -> Result<(), Fail> {
-    let clock = SystemClock::new(rt.clone()?);
-    let Some((mut listening, mut dialling)) = pair(&rt)? else {
-        return Err(Fail::from("no link on loopback"));
-    };
-    assert!(rt; gives(&clock, &mut dialling, &front()));
-    let mut front = [0; FRAME];
-    assert_eq!(rt; takes(&clock, &mut listening, &mut front), FRAME);
+    let clock = clock_of(&rt)?;
+    let mut peers = Peers::new(&rt)?;
+    let (reader, writer) = (&mut peers.listening, &mut peers.first);
+    let steps = [gives(&clock, writer, &front()), takes_front(&clock, reader)];
     let mut room = [0; 8];
     let mut got = LinkRead::End;
     thread::join_mut(
         &rt,
-        &mut || got = listening.read(&mut room),
-        &mut || {
-            for piece in [b"abc", b"def"] {
-                dialling.write(piece);
-                clock.wait(10);
-            }
-        },
+        &mut || got = reader.read(&mut room),
+        &mut || writes_pieces(&clock, writer),
     );
-    assert!(rt; got == LinkRead::Got(6));
-    assert!(rt; room == *b"abcdef\0\0");
+    assert_each(&rt, &steps);
+    assert!(rt; got == LinkRead::Got(6) && room == *b"abcdef\0\0");
     Ok(())
+}
+
+/// Whether an address is refused, to be dialled and to be listened at.
+fn refuses(rt: &HostRuntime, text: &str) -> Result<bool, Fail> {
+    let alloc = rt.alloc();
+    Ok(
+        link_of(rt, Way::Dial(text.to_string(alloc)?))?.is_none()
+            && link_of(rt, Way::Listen(text.to_string(alloc)?))?.is_none(),
+    )
+}
+
+/// Whether an address at which a link listens is refused to another that would listen there.
+fn refuses_again(rt: &HostRuntime) -> Result<bool, Fail> {
+    let listening = listener(rt)?;
+    let address = listening.listens_at().ok_or("no address")?;
+    let way = Way::Listen(address.to_string(rt.alloc())?);
+    Ok(link_of(rt, way)?.is_none())
 }
 
 #[test]
 fn addresses_that_cannot_be_used_are_refused(rt: HostRuntime) -> Result<(), Fail> {
-    let alloc = rt.alloc();
     for text in ["", "localhost:5005", "127.0.0.1", "127.0.0.1:65536"] {
-        assert!(rt; link_of(&rt, Way::Dial(text.to_string(alloc)?))?.is_none());
-        assert!(rt; link_of(&rt, Way::Listen(text.to_string(alloc)?))?.is_none());
+        assert!(rt; refuses(&rt, text)?, "{text}");
     }
-    let Some((listening, _)) = pair(&rt)? else {
-        return Err(Fail::from("no link on loopback"));
-    };
-    let Some(address) = listening.listens_at() else {
-        return Err(Fail::from("no address"));
-    };
-    assert!(rt; link_of(&rt, Way::Listen(address.to_string(alloc)?))?.is_none());
-    Ok(())
-}
-
-#[test]
-fn a_member_that_is_not_there_is_awaited(rt: HostRuntime) -> Result<(), Fail> {
-    let Some((mut listening, mut dialling)) = pair(&rt)? else {
-        return Err(Fail::from("no link on loopback"));
-    };
-    let mut room = [0; 1];
-    assert!(rt; listening.open() == Opening::NotYet);
-    assert!(rt; listening.read(&mut room) == LinkRead::End);
-    assert!(rt; listening.write(b"x") == Wrote::Failed);
-    drop(listening);
-    assert!(rt; dialling.open() == Opening::NotYet);
+    assert!(rt; refuses_again(&rt)?);
     Ok(())
 }

@@ -1,4 +1,5 @@
 // The system's clock.
+use crate::peers::{assert_each, clock_of};
 use std::io;
 use std::sync::atomic::{AtomicU64, Ordering};
 use std::test::Fail;
@@ -9,13 +10,16 @@ use xl_tcp::SystemClock;
 
 #[test]
 fn the_clock_gives_a_moment_of_this_century(rt: HostRuntime) -> Result<(), Fail> {
-    let clock = SystemClock::new(rt.clone()?);
+    let clock = clock_of(&rt)?;
     let before = clock.now();
     clock.wait(2);
     let after = clock.now();
-    assert!(rt; before > 800_000_000_000);
-    assert!(rt; before < after);
-    assert!(rt; after <= GREATEST_MILLIS);
+    let steps = [
+        before > 800_000_000_000,
+        before < after,
+        after <= GREATEST_MILLIS,
+    ];
+    assert_each(&rt, &steps);
     Ok(())
 }
 

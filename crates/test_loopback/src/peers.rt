@@ -1,47 +1,63 @@
-// Two peers over loopback, and what they say.
+// A link that listens on loopback, those that dial it, and what they say.
+use std::process::Abort;
 use std::test::Fail;
 use xl_base::NodeNo;
 use xl_io::Wrote;
 use xl_links::{Clock, Hub, Judgement, Link, LinkRead, Opening, Way};
-use xl_tcp::{TcpHub, TcpLink};
+use xl_tcp::{SystemClock, TcpHub, TcpLink};
+
+pub type Loopback = TcpLink<HostRuntime>;
 
 /// A link of member 2 over loopback, or none if the address is refused.
-pub fn link_of(rt: &HostRuntime, way: Way) -> Result<Option<TcpLink<HostRuntime>>, Fail> {
+pub fn link_of(rt: &HostRuntime, way: Way) -> Result<Option<Loopback>, Fail> {
     let mut hub = TcpHub::new(rt.alloc(), rt.clone()?);
-    let Some(member) = NodeNo::new(2) else {
-        return Ok(None);
-    };
+    let member = NodeNo::new(2).ok_or("no member")?;
     Ok(hub.open_link(member, way).ok())
 }
 
-/// A link that listens on loopback, and one that dials it.
-pub fn pair(
-    rt: &HostRuntime,
-) -> Result<Option<(TcpLink<HostRuntime>, TcpLink<HostRuntime>)>, Fail> {
-    let alloc = rt.alloc();
-    let Some(listening) = link_of(rt, Way::Listen("127.0.0.1:0".to_string(alloc)?))? else {
-        return Ok(None);
-    };
-    let Some(address) = listening.listens_at() else {
-        return Ok(None);
-    };
-    let Some(dialling) = link_of(rt, Way::Dial(address.to_string(alloc)?))? else {
-        return Ok(None);
-    };
-    Ok(Some((listening, dialling)))
+/// A link that listens on loopback.
+pub fn listener(rt: &HostRuntime) -> Result<Loopback, Fail> {
+    let way = Way::Listen("127.0.0.1:0".to_string(rt.alloc())?);
+    Ok(link_of(rt, way)?.ok_or("no link on loopback")?)
 }
 
 /// A link that dials where this one listens.
-pub fn another(
-    rt: &HostRuntime,
-    listening: &TcpLink<HostRuntime>,
-) -> Result<TcpLink<HostRuntime>, Fail> {
-    let Some(address) = listening.listens_at() else {
-        return Err(Fail::from("no address"));
-    };
-    match link_of(rt, Way::Dial(address.to_string(rt.alloc())?))? {
-        Some(link) => Ok(link),
-        None => Err(Fail::from("no link on loopback")),
+pub fn dialler(rt: &HostRuntime, listening: &Loopback) -> Result<Loopback, Fail> {
+    let address = listening.listens_at().ok_or("no address")?;
+    let way = Way::Dial(address.to_string(rt.alloc())?);
+    Ok(link_of(rt, way)?.ok_or("no link on loopback")?)
+}
+
+/// A link that listens on loopback, and three that dial it.
+#[derive(Drop)]
+pub struct Peers {
+    pub listening: Loopback,
+    pub first: Loopback,
+    pub second: Loopback,
+    pub third: Loopback,
+}
+
+impl Peers {
+    pub fn new(rt: &HostRuntime) -> Result<Peers, Fail> {
+        let listening = listener(rt)?;
+        Ok(Peers {
+            first: dialler(rt, &listening)?,
+            second: dialler(rt, &listening)?,
+            third: dialler(rt, &listening)?,
+            listening,
+        })
+    }
+}
+
+/// The system's clock.
+pub fn clock_of(rt: &HostRuntime) -> Result<SystemClock<HostRuntime>, Fail> {
+    Ok(SystemClock::new(rt.clone()?))
+}
+
+/// Asserts that each step of a test went as it should.
+pub fn assert_each<A: Abort>(rt: &A, steps: &[bool]) {
+    for (place, went) in steps.iter().enumerate() {
+        assert!(rt; *went, "step {place}, from 0");
     }
 }
 
@@ -89,6 +105,27 @@ pub fn takes<C: Clock, L: Link>(clock: &C, link: &mut L, room: &mut [u8]) -> usi
     taken
 }
 
+/// Takes the frame with which a peer begins, and says whether it is that.
+pub fn takes_front<C: Clock, L: Link>(clock: &C, link: &mut L) -> bool {
+    let mut room = [0; FRAME];
+    takes(clock, link, &mut room) == FRAME && room == front()
+}
+
+/// What one read of a frame's length answers.
+pub fn reads<L: Link>(link: &mut L) -> LinkRead {
+    link.read(&mut [0; FRAME])
+}
+
+/// Whether one of so many reads finds that no more comes.
+pub fn ends<L: Link>(link: &mut L, most: u32) -> bool {
+    for _ in 0..most {
+        if reads(link) == LinkRead::End {
+            return true;
+        }
+    }
+    false
+}
+
 /// How long the frame is with which a peer begins.
 pub const FRAME: usize = 78;
 
@@ -133,10 +170,10 @@ pub fn gives_frames<L: Link>(link: &mut L, frame: &[u8], count: u32) -> u32 {
     count
 }
 
-/// Reads this many frames, each as long as the room, and says how many came before one didn't.
-pub fn takes_frames<L: Link>(link: &mut L, room: &mut [u8], count: u32) -> u32 {
+/// Reads this many frames of that length, and says how many came before one didn't.
+pub fn takes_frames<L: Link>(link: &mut L, count: u32) -> u32 {
     for taken in 0..count {
-        if link.read(room) != LinkRead::Got(room.len()) {
+        if reads(link) != LinkRead::Got(FRAME) {
             return taken;
         }
         link.judged(Judgement::Fresh);
