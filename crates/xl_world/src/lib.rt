@@ -17,7 +17,7 @@
 //! world.event(&issue(two))?;
 //! assert_eq!(world.sent().len(), 2);
 //! let told = world.event(&Event { at: 1_000, what: What::All })?;
-//! assert_eq!(told.as_slice(), &[full(one), full(two)]); // each reports it
+//! assert_eq!(told.as_slice(), &[full(two), full(one)]); // each reports it
 //! assert!(world.agreement(one, two));
 //! ```
 #![tactic(auto)]
