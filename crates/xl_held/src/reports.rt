@@ -8,11 +8,11 @@ ghost use Rattle.xl_noted.specs.Seen.{noted_seen};
 
 use crate::words::{push_last, push_report};
 use std::alloc::Global;
-use std::fmt::Write;
 use xl_base::{NodeNo, OutOfMemory};
 use xl_core::{LastReport, Node, Report};
 use xl_noted::{Noted, is_same_last as has_same_last, is_same_report as has_same_report};
 use xl_sched::Reader;
+use xl_told::push_of;
 use xl_trie::Trie;
 
 fn push_report_line(
@@ -25,8 +25,8 @@ fn push_report_line(
     ensures { OnOk result (string_bytes text.new
         ≡ string_bytes text.old ++ report_line reader.now.names number last.now) }
 {
-    let number = number.get();
-    write!(text, "held {number} report ")?;
+    push_of(text, "held ", number)?;
+    text.push_str(" report ")?;
     push_last(alloc, text, reader, last)?;
     text.push('\n')?;
     Ok(())
@@ -42,8 +42,8 @@ fn push_prefers_line(
     ensures { OnOk result (string_bytes text.new
         ≡ string_bytes text.old ++ prefers_line reader.now.names number ledger.now) }
 {
-    let number = number.get();
-    write!(text, "held {number} prefers ")?;
+    push_of(text, "held ", number)?;
+    text.push_str(" prefers ")?;
     push_report(alloc, text, reader, ledger)?;
     text.push('\n')?;
     Ok(())

@@ -9,7 +9,6 @@ ghost use Rattle.xl_rounds.specs.Positions.{count_agreeing, count};
 
 use crate::words::{push_mode, push_phase};
 use std::alloc::Global;
-use std::fmt::Write;
 use xl_base::{NodeNo, OutOfMemory, TxId};
 use xl_noted::{
     NotedRound, are_same_ids as have_same_ids, is_same_mode, is_same_phase,
@@ -17,18 +16,19 @@ use xl_noted::{
 };
 use xl_rounds::Round;
 use xl_sched::Reader;
-use xl_told::{push_ids, push_proposal};
+use xl_told::{push_ids, push_numbered, push_of, push_proposal};
 use xl_wire::Proposal;
 
 fn push_round_line(text: &mut String, number: NodeNo, round: &Round) -> Result<(), OutOfMemory>
     ensures { OnOk result (string_bytes text.new ≡ string_bytes text.old ++ round_line number round.now) }
 {
-    let (number, started) = (number.get(), round.started());
-    write!(text, "held {number} round ")?;
+    push_of(text, "held ", number)?;
+    text.push_str(" round ")?;
     push_phase(text, round.phase())?;
     text.push(' ')?;
     push_mode(text, round.mode())?;
-    writeln!(text, " {started}")?;
+    push_numbered(text, " ", round.started())?;
+    text.push('\n')?;
     Ok(())
 }
 
@@ -42,8 +42,8 @@ fn push_position_line(
     ensures { OnOk result (string_bytes text.new
         ≡ string_bytes text.old ++ position_line reader.now.names number position.now) }
 {
-    let number = number.get();
-    write!(text, "held {number} position ")?;
+    push_of(text, "held ", number)?;
+    text.push_str(" position ")?;
     push_proposal(alloc, text, reader, position)?;
     text.push('\n')?;
     Ok(())
@@ -59,8 +59,8 @@ fn push_set_line(
     ensures { OnOk result (string_bytes text.new
         ≡ string_bytes text.old ++ set_line reader.now.names number ids.now) }
 {
-    let number = number.get();
-    write!(text, "held {number} set ")?;
+    push_of(text, "held ", number)?;
+    text.push_str(" set ")?;
     push_ids(alloc, text, reader, ids)?;
     text.push('\n')?;
     Ok(())
@@ -76,8 +76,8 @@ fn push_pending_line(
     ensures { OnOk result (string_bytes text.new
         ≡ string_bytes text.old ++ pending_line reader.now.names number ids.now) }
 {
-    let number = number.get();
-    write!(text, "held {number} pending ")?;
+    push_of(text, "held ", number)?;
+    text.push_str(" pending ")?;
     push_ids(alloc, text, reader, ids)?;
     text.push('\n')?;
     Ok(())
@@ -90,9 +90,10 @@ pub fn push_agreement_line(
 ) -> Result<(), OutOfMemory>
     ensures { OnOk result (string_bytes text.new ≡ string_bytes text.old ++ agreement_line number round.now) }
 {
-    let number = number.get();
-    let (agreeing, proposers) = (round.agreeing(), round.proposers());
-    writeln!(text, "held {number} agreement {agreeing} {proposers}")?;
+    push_of(text, "held ", number)?;
+    push_numbered(text, " agreement ", u64::from(round.agreeing()))?;
+    push_numbered(text, " ", u64::from(round.proposers()))?;
+    text.push('\n')?;
     Ok(())
 }
 

@@ -13,20 +13,19 @@ ghost use Rattle.xl_held.specs.Words.{
 };
 
 use std::alloc::Global;
-use std::fmt::Write;
 use xl_base::{OutOfMemory, Seq};
 use xl_core::{LastReport, Report};
 use xl_rounds::{Mode, Phase};
 use xl_running::push_id;
 use xl_sched::Reader;
-use xl_told::{push_proposal, push_validation};
+use xl_told::{push_number, push_numbered, push_proposal, push_validation};
 use xl_wire::{Proposal, Validation};
 
 pub fn push_issuing(text: &mut String, failed: &Option<Seq>) -> Result<(), OutOfMemory>
     ensures { OnOk result (string_bytes text.new ≡ string_bytes text.old ++ issuing_text failed.now) }
 {
     match failed {
-        Some(seq) => Ok(write!(text, "off {seq}")?),
+        Some(seq) => push_numbered(text, "off ", u64::from(*seq)),
         None => Ok(text.push_str("on")?),
     }
 }
@@ -43,7 +42,8 @@ pub fn push_report(
     let Some(Report { seq, id }) = report else {
         return Ok(text.push_str("none")?);
     };
-    write!(text, "{seq} ")?;
+    push_number(text, u64::from(*seq))?;
+    text.push(' ')?;
     push_id(alloc, text, reader, id)
 }
 
