@@ -66,7 +66,7 @@ fn push_set_line(
     Ok(())
 }
 
-fn push_pending_line(
+pub fn push_pending_line(
     alloc: Global,
     text: &mut String,
     reader: &Reader,
@@ -154,8 +154,7 @@ fn push_new_set(
     push_set_line(alloc, text, reader, number, ids)
 }
 
-/// The transactions that are pending, if they are new.
-pub fn push_new_pending(
+fn push_new_pending(
     alloc: Global,
     text: &mut String,
     reader: &Reader,

@@ -47,7 +47,7 @@ pub fn tell_part(
     push_event(alloc, text, reader, reader.lines(), event)?;
     let first = world_in(running);
     let sent = first.sent().len();
-    let before = note_before(alloc, first, event)?;
+    let before = note_before(alloc, first, event, &mut speller.room)?;
     let happened = running.event(event)?;
     let reader = running.reader();
     push_outcomes(alloc, text, reader, reader.lines(), happened.as_slice())?;

@@ -17,7 +17,7 @@ use xl_world::{Said, Sent, SentFrames};
 #[derive(Drop)]
 pub struct Speller {
     // A room of its own would be cleared for each frame.
-    room: Box<[u8; LONGEST_FRAME]>,
+    pub room: Box<[u8; LONGEST_FRAME]>,
     hashed: Hashed,
 }
 
