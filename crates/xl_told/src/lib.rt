@@ -15,5 +15,6 @@ pub use bodies::{push_body, push_said};
 pub use events::push_event;
 pub use hashed::Hashed;
 pub use words::{
-    push_ids, push_list, push_number, push_numbered, push_of, push_proposal, push_validation,
+    push_ids, push_ledger, push_list, push_number, push_numbered, push_of, push_proposal,
+    push_validation,
 };

@@ -2,6 +2,7 @@
 ghost use Rattle.std.specs.Prelude.{◌≡◌, ◌++◌, ◌∷◌, codes, decimal, OnOk};
 ghost use Rattle.std.specs.List.{flat_map};
 ghost use Rattle.std.specs.String.{string_bytes};
+ghost use Rattle.xl_running.specs.Texts.{id_text, space};
 ghost use Rattle.xl_told.specs.Words.{
   fullness_text,
   ids_text,
@@ -16,7 +17,7 @@ ghost use Rattle.xl_told.specs.Words.{
 
 use itoa::Buffer;
 use std::alloc::Global;
-use xl_base::{LedgerId, NodeNo, OutOfMemory, SetId, TxId};
+use xl_base::{LedgerId, NodeNo, OutOfMemory, Seq, SetId, TxId};
 use xl_lists::List;
 use xl_running::push_id;
 use xl_sched::Reader;
@@ -164,6 +165,22 @@ fn push_validated(
     }
 }
 
+/// A ledger, by its sequence and its id.
+pub fn push_ledger(
+    alloc: Global,
+    text: &mut String,
+    reader: &Reader,
+    seq: Seq,
+    id: &LedgerId,
+) -> Result<(), OutOfMemory>
+    ensures { OnOk result (string_bytes text.new
+        ≡ string_bytes text.old ++ decimal seq ++ space ++ id_text reader.now.names id.now) }
+{
+    push_number(text, u64::from(seq))?;
+    text.push(' ')?;
+    push_id(alloc, text, reader, id)
+}
+
 pub fn push_validation(
     alloc: Global,
     text: &mut String,
@@ -173,10 +190,9 @@ pub fn push_validation(
     ensures { OnOk result (string_bytes text.new
         ≡ string_bytes text.old ++ validation_text reader.now.names validation.now) }
 {
-    push_number(text, u64::from(validation.seq))?;
+    push_ledger(alloc, text, reader, validation.seq, &validation.id)?;
     text.push(' ')?;
-    push_id(alloc, text, reader, &validation.id)?;
-    push_numbered(text, " ", u64::from(validation.signed))?;
+    push_number(text, u64::from(validation.signed))?;
     text.push(' ')?;
     push_fullness(text, validation.full)?;
     push_validated(alloc, text, reader, &validation.validated)
