@@ -7,7 +7,7 @@ ghost use Rattle.xl_noted.specs.Same.{are_same_ids, is_same_proposal};
 ghost use Rattle.xl_noted.specs.Seen.{round_seen};
 ghost use Rattle.xl_rounds.specs.Positions.{count_agreeing, count};
 
-use crate::words::{push_mode, push_phase};
+use crate::words::{push_held, push_last_number, push_mode, push_phase};
 use std::alloc::Global;
 use xl_base::{NodeNo, OutOfMemory, TxId};
 use xl_noted::{
@@ -22,14 +22,11 @@ use xl_wire::Proposal;
 fn push_round_line(text: &mut String, number: NodeNo, round: &Round) -> Result<(), OutOfMemory>
     ensures { OnOk result (string_bytes text.new ≡ string_bytes text.old ++ round_line number round.now) }
 {
-    push_of(text, "held ", number)?;
-    text.push_str(" round ")?;
+    push_held(text, number, " round ")?;
     push_phase(text, round.phase())?;
     text.push(' ')?;
     push_mode(text, round.mode())?;
-    push_numbered(text, " ", round.started())?;
-    text.push('\n')?;
-    Ok(())
+    push_last_number(text, round.started())
 }
 
 fn push_position_line(
@@ -42,8 +39,7 @@ fn push_position_line(
     ensures { OnOk result (string_bytes text.new
         ≡ string_bytes text.old ++ position_line reader.now.names number position.now) }
 {
-    push_of(text, "held ", number)?;
-    text.push_str(" position ")?;
+    push_held(text, number, " position ")?;
     push_proposal(alloc, text, reader, position)?;
     text.push('\n')?;
     Ok(())
@@ -59,8 +55,7 @@ fn push_set_line(
     ensures { OnOk result (string_bytes text.new
         ≡ string_bytes text.old ++ set_line reader.now.names number ids.now) }
 {
-    push_of(text, "held ", number)?;
-    text.push_str(" set ")?;
+    push_held(text, number, " set ")?;
     push_ids(alloc, text, reader, ids)?;
     text.push('\n')?;
     Ok(())
@@ -76,8 +71,7 @@ pub fn push_pending_line(
     ensures { OnOk result (string_bytes text.new
         ≡ string_bytes text.old ++ pending_line reader.now.names number ids.now) }
 {
-    push_of(text, "held ", number)?;
-    text.push_str(" pending ")?;
+    push_held(text, number, " pending ")?;
     push_ids(alloc, text, reader, ids)?;
     text.push('\n')?;
     Ok(())
@@ -92,9 +86,7 @@ pub fn push_agreement_line(
 {
     push_of(text, "held ", number)?;
     push_numbered(text, " agreement ", u64::from(round.agreeing()))?;
-    push_numbered(text, " ", u64::from(round.proposers()))?;
-    text.push('\n')?;
-    Ok(())
+    push_last_number(text, u64::from(round.proposers()))
 }
 
 fn has_same_round(before: &NotedRound, round: &Round) -> bool

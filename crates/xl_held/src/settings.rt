@@ -6,7 +6,7 @@ ghost use Rattle.xl_held.specs.Lines.{issuing_line, kept_line, list_line, time_l
 ghost use Rattle.xl_noted.specs.Same.{is_same_list, is_same_number};
 ghost use Rattle.xl_noted.specs.Seen.{noted_seen};
 
-use crate::words::push_issuing;
+use crate::words::{push_held, push_issuing};
 use xl_base::{Millis, NodeNo, OutOfMemory, Seq};
 use xl_core::Node;
 use xl_lists::List;
@@ -39,8 +39,7 @@ fn push_issuing_line(
 ) -> Result<(), OutOfMemory>
     ensures { OnOk result (string_bytes text.new ≡ string_bytes text.old ++ issuing_line node failed.now) }
 {
-    push_of(text, "held ", node)?;
-    text.push_str(" issuing ")?;
+    push_held(text, node, " issuing ")?;
     push_issuing(text, failed)?;
     text.push('\n')?;
     Ok(())
@@ -49,8 +48,7 @@ fn push_issuing_line(
 fn push_list_line(text: &mut String, node: NodeNo, list: &List) -> Result<(), OutOfMemory>
     ensures { OnOk result (string_bytes text.new ≡ string_bytes text.old ++ list_line node list.now) }
 {
-    push_of(text, "held ", node)?;
-    text.push_str(" list ")?;
+    push_held(text, node, " list ")?;
     push_list(text, list)?;
     text.push('\n')?;
     Ok(())
