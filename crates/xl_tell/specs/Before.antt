@@ -38,7 +38,7 @@ number_of (before.Time i noted) = Some i
 -- what is told of a node by what was noted
 abbrev pub told_of : List Named → Before → Node → List ℕ
 told_of names before.Nobody n = []
-told_of names (before.Whole i noted) n = changed_lines names i (noted_seen noted.value) n
+told_of names (before.Whole i noted) n = changed_lines names i (noted_seen noted) n
 told_of names (before.Vote i noted) n = vote_heard names i noted n
 told_of names (before.Position i noted) n = proposal_heard names i noted n
 told_of names (before.Ledgers i noted) n = header_heard names i noted n

@@ -26,10 +26,9 @@ pub enum Before {
     /// It happens at no node.
     Nobody,
     /// All that the node of this number holds.
-    // It is large, and the others are moved as far as the largest.
     Whole {
         number: NodeNo,
-        noted: Box<Noted>,
+        noted: Noted,
     },
     /// What it holds that may be new once it has heard a validation.
     Vote {
@@ -148,7 +147,7 @@ fn note_whole(
 {
     match world.node(number) {
         Some(core) => {
-            let noted = Box::new(alloc, Noted::of(alloc, core.node())?)?;
+            let noted = Noted::of(alloc, core.node())?;
             Ok(Before::Whole { number, noted })
         }
         None => Ok(Before::Nobody),
@@ -201,6 +200,7 @@ fn note_set(world: &World, event: &Event, frame: &Sent<'_>) -> Before
     ensures { Tells world.now event.now result }
 {
     let number = frame.to();
+    let _member = frame.from();
     match world.node(number) {
         Some(core) => Before::Time {
             number,

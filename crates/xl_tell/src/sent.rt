@@ -1,6 +1,7 @@
 // The frames that were sent.
-ghost use Rattle.std.specs.Prelude.{◌≡◌, ◌+◌, ◌++◌, drop, OnOk};
+ghost use Rattle.std.specs.Prelude.{◌≡◌, ◌+◌, ◌++◌, codes, decimal, drop, OnOk};
 ghost use Rattle.std.specs.String.{string_bytes};
+ghost use Rattle.xl_running.specs.Texts.{space};
 ghost use Rattle.xl_tell.specs.Parts.{sent_line, sent_lines};
 ghost use Rattle.xl_told.specs.Bodies.{said_text};
 ghost use Rattle.xl_wire.specs.Frames.{decoded_of};
@@ -100,6 +101,18 @@ fn push_frame_said(
     }
 }
 
+/// The number of a frame, its sender and its receiver.
+fn push_numbers(text: &mut String, number: usize, frame: &Sent<'_>) -> Result<(), OutOfMemory>
+    ensures { OnOk result (string_bytes text.new ≡ string_bytes text.old
+        ++ (codes "sent " ++ decimal number ++ space ++ decimal frame.now.from ++ space ++ decimal frame.now.to ++ space)) }
+{
+    push_numbered(text, "sent ", number as u64)?;
+    push_of(text, " ", frame.from())?;
+    push_of(text, " ", frame.to())?;
+    text.push(' ')?;
+    Ok(())
+}
+
 /// A frame of this number.
 fn push_frame(
     alloc: Global,
@@ -112,10 +125,7 @@ fn push_frame(
     ensures { OnOk result (string_bytes text.new
         ≡ string_bytes text.old ++ sent_line reader.now.names number frame.now) }
 {
-    push_numbered(text, "sent ", number as u64)?;
-    push_of(text, " ", frame.from())?;
-    push_of(text, " ", frame.to())?;
-    text.push(' ')?;
+    push_numbers(text, number, frame)?;
     push_frame_said(alloc, text, reader, speller, frame)?;
     text.push('\n')?;
     Ok(())
