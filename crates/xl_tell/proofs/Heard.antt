@@ -17,7 +17,7 @@ use Rattle.xl_wire.specs.Heads.{head_refusal, lacking, raw_in, split_of, split_u
 use Rattle.xl_wire.specs.Heads.Split.{Whole}
 use Rattle.xl_wire.specs.Raws.{IsRaw, RawFrame, raw_bytes}
 use Rattle.xl_wire.proofs.RawLaws.{split_again, split_spelled}
-use Rattle.xl_tags.specs.Rings.{Ring}
+use Rattle.xl_tags.specs.Rings.{Ring, schedule_ring}
 use Rattle.xl_tags.specs.Sealing.{as_sealed, sealed}
 use Rattle.xl_tags.proofs.OpeningLaws.{IsRaw-as_sealed}
 use Rattle.xl_core.specs.declared.event.CoreEvent.{CoreEvent}
@@ -45,7 +45,7 @@ use Rattle.xl_world.specs.declared.place.Place.{Place}
 use Rattle.xl_world.specs.Disk.{answer_of}
 use Rattle.xl_world.specs.Emptying.{event_steps}
 use Rattle.xl_world.specs.Schedule.{after_event}
-use Rattle.xl_world.specs.Sending.{Sent}
+use Rattle.xl_world.specs.Sending.{Sent, sent_as}
 use Rattle.xl_world.specs.Starts.{IsRun}
 use Rattle.xl_world.specs.World.{Step, World, core_in, disk_after, place_at, reply_at, run}
 use Rattle.xl_world.proofs.Emptying.{emptied, emptied_acts, emptied_node, event_ran}
@@ -54,7 +54,7 @@ use Rattle.xl_world.proofs.Putting.{put_at}
 use Rattle.xl_world.proofs.Settling.{at_its_number}
 use Rattle.xl_tell.specs.declared.before.Before.{Before}
 use Rattle.xl_tell.specs.declared.before.Before.TheVariants as before
-use Rattle.xl_tell.specs.Before.{Delivers, IsBrief, Says, heard_noted, told_at, told_by, told_of}
+use Rattle.xl_tell.specs.Before.{Delivers, IsBrief, Says, SaysSet, heard_noted, told_at, told_by, told_of}
 use Rattle.xl_tell.specs.Nodes.{changed_at, changed_in, node_of, noted_at}
 use Rattle.xl_tell.specs.Parts.{new_holdings}
 use Rattle.xl_tell.proofs.Currents.{core_is_current}
@@ -106,6 +106,17 @@ kept_set ring bytes f fits is kind length_is =
   where
     not_less : (a b : ℕ) → a ≡ b → nat_lt a b ≡ false
     not_less a b same = grind (arith, nat_tests, same)
+
+-- a frame says a set, if what is kept of it is a set of its sender
+pub says_set : (frame : Sent) (bytes : List ℕ) (f : RawFrame) → frame ≡ sent_as frame.from frame.to bytes → IsBytes bytes → split_of bytes ≡ Whole f → f.kind ≡ 4 → f.from ≡ frame.from → span f.body ≡ length bytes → SaysSet frame
+says_set frame bytes f is fits split kind from length_is =
+    let ids : List TxId = ids_of (speech_of (body_in 4 f.body)) in
+    record {
+      ids = ids;
+      says = ap (λ (s : Sent). said_in (raw_in s.bytes)) is
+          ∙ (kept_set (schedule_ring frame.to) bytes f fits split kind length_is
+          ∙ ap (λ (m : ℕ). let said : Spoken = record { from = m; what = speech.TxSet ids } in said) from);
+    }
 
 -- THE NODE BEHIND IT
 

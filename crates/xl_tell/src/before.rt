@@ -35,22 +35,22 @@ pub enum Before {
         number: NodeNo,
         noted: NotedVote,
     },
-    /// .. once it has heard a proposal.
+    /// What it holds that may be new once it has heard a proposal.
     Position {
         number: NodeNo,
         noted: NotedPosition,
     },
-    /// .. once it has heard a header.
+    /// What it holds that may be new once it has heard a header.
     Ledgers {
         number: NodeNo,
         noted: NotedLedgers,
     },
-    /// .. once it has heard a transaction.
+    /// What it holds that may be new once it has heard a transaction.
     Pending {
         number: NodeNo,
         noted: NotedPending,
     },
-    /// .. once it has heard a set: its time.
+    /// Its time, which alone may be new once it has heard a set.
     Time {
         number: NodeNo,
         noted: Millis,
@@ -84,7 +84,7 @@ fn frame_of<'a>(world: &'a World, what: &What) -> Option<Sent<'a>>
     }
 }
 
-/// What the frame between these two says that says this.
+/// The frame between these two in which this is said says it.
 fn saying(from: NodeNo, to: NodeNo, said: &Said)
     ensures { Says (said_to from to (body_said said.now)) (speech_of (body_said said.now)) }
 {
@@ -98,8 +98,8 @@ fn is_kept_set(frame: &Sent<'_>, kept: &[u8]) -> bool
     ensures { IsTrue result → SaysSet frame.now }
 {
     match split(kept) {
-        Parted::Whole(raw) => {
-            raw.kind == TX_SET && raw.from == frame.from().get() && raw.length == kept.len()
+        Parted::Whole(raw) if raw.kind == TX_SET => {
+            raw.from == frame.from().get() && raw.length == kept.len()
         }
         _ => false,
     }
@@ -192,7 +192,7 @@ fn note_hearing(world: &World, event: &Event, frame: &Sent<'_>, said: &Said) -> 
     }
 }
 
-/// .. the frame with a set.
+/// What the node of a number holds that may be new once it has heard the frame that says a set.
 fn note_set(world: &World, event: &Event, frame: &Sent<'_>) -> Before
     requires delivers { Delivers world.now event.now.what frame.now }
     requires says { SaysSet frame.now }
