@@ -1,13 +1,9 @@
 -- Frames that were sent, told one after the other.
 use Rattle.std.proofs.Common.{◌≡◌, ℕ, suc, ◌+◌, ◌≤◌, List, [], ◌∷◌, ◌++◌, length, drop, Some, arith, ap, sym, ◌∙◌, append_assoc, append-nil}
-use Rattle.std.specs.Prelude.{codes, decimal, slice_get}
+use Rattle.std.specs.Prelude.{slice_get}
 use Rattle.std.proofs.lemmas.Option.{get_or_from_slice_get, slice_get_within}
 use Rattle.xl_sched.specs.declared.named.Named.{Named}
-use Rattle.xl_running.specs.Texts.{newline, space}
-use Rattle.xl_told.specs.Bodies.{said_text}
-use Rattle.xl_wire.specs.Frames.{decoded_of}
 use Rattle.xl_tell.specs.Parts.{sent_line, sent_lines}
-use Rattle.xl_tell.proofs.Writing.{then_written}
 use Rattle.xl_world.specs.Sending.{Sent}
 use Rattle.xl_world.proofs.Going.{at_place, none_left}
 

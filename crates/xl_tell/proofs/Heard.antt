@@ -1,5 +1,5 @@
 -- What is told of a node that hears a frame is what it may change.
-use Rattle.std.proofs.Common.{◌≡◌, ℕ, zero, suc, ◌/◌, ◌≤◌, Bool, true, false, List, [], length, arith, refl, ap, sym, ◌∙◌, subst, Option, Some, None, Result, Ok, Err, append-nil}
+use Rattle.std.proofs.Common.{◌≡◌, ℕ, zero, suc, ◌/◌, ◌≤◌, Bool, true, false, List, [], length, arith, refl, ap, sym, ◌∙◌, subst, Option, Some, None, Ok, append-nil}
 use Rattle.std.specs.Prelude.{max, nat_lt, option_map}
 use Rattle.std.proofs.lemmas.Bool.{cond-false}
 use Rattle.std.proofs.lemmas.Bool.Decides.{nat_tests}

@@ -5,7 +5,7 @@ use Rattle.std.specs.Option.{option_and_then}
 use Rattle.std.specs.String.{string_bytes}
 use Rattle.xl_core.specs.Core.{Core}
 use Rattle.xl_core.specs.Node.{Node}
-use Rattle.xl_tell.specs.Before.{number_of, told_at, told_of}
+use Rattle.xl_tell.specs.Before.{told_at, told_of}
 use Rattle.xl_world.specs.World.{core_in}
 use Rattle.xl_tell.proofs.nodes.push_told.Goals as goal
 
