@@ -6,7 +6,7 @@ use Rattle.xl_tell.proofs.before.note_whole.Goals as goal
 
 pub returns-in_ok-noted-in-Some : goal.returns-in_ok-noted-in-Some
 returns-in_ok-noted-in-Some c =
-    λ names. whole_tells c.args.world.now c.args.event.now c.args.number _ _ c.requires c.in-Some.ensures.core (c.in_ok-noted-in-Some.ensures ∙ ap noted c.node-in-Some.ensures.value) names
+    λ names. whole_tells c.args.world.now c.args.event.now c.args.number _ c.in_ok-noted-in-Some.noted c.requires c.in-Some.ensures.core (c.in_ok-noted-in-Some.ensures ∙ ap noted c.node-in-Some.ensures.value) names
 
 pub returns-in-None : goal.returns-in-None
 returns-in-None c = λ names. nobody_tells c.args.world.now c.args.event.now c.args.number c.requires c.in-None.ensures.core names

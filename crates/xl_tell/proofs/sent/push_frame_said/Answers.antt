@@ -13,6 +13,6 @@ returns-in-Some c =
     let names = c.args.reader.now.names in
     let frame : Sent = c.args.frame.now in
     let body : Body = body_said c.in-Some.said.now in
-    let same : said_to c.from.result c.to.result body ≡ frame =
-    ap (λ (m : ℕ). said_to m c.to.result body) c.from.ensures ∙ (ap (λ (m : ℕ). said_to frame.from m body) c.to.ensures ∙ sym c.in-Some.ensures) in
+    let same : said_to c.from-from.result c.to-to.result body ≡ frame =
+    ap (λ (m : ℕ). said_to m c.to-to.result body) c.from-from.ensures ∙ (ap (λ (m : ℕ). said_to frame.from m body) c.to-to.ensures ∙ sym c.in-Some.ensures) in
     subst (λ (f : Sent). OnOk c.push_value.result (string_bytes c.push_value.new.text ≡ string_bytes c.args.text.now ++ said_text names (decoded_of f.bytes))) same c.push_value.ensures
