@@ -6,8 +6,9 @@ import math
 import time
 from dataclasses import dataclass
 
-FIRST_SECOND = 16  # before that no node's round has anything to close
-ROOT = 'root'
+from told import report_of, tell
+
+FIRST_SECOND = 16  # a choice: earlier seconds only make tries longer
 HEARD, LOST = ['timers', 'all'], ['timers', 'drop']
 
 
@@ -20,18 +21,18 @@ class Told:
     ledger: str
 
 
+def replayed(program, text):
+    """The report of a schedule, and as its `parents` for each ledger that a node came to know the one that it follows."""
+    status, lines = tell(program, text)
+    report = report_of(status, lines)
+    held = (line.split() for line in lines if line.startswith('held '))
+    report.parents = {words[4]: words[5] for words in held if words[2] == 'ledger'}
+    return report
+
+
 def told_in(report):
-    """The reports in order, and for each built ledger the one that it was built on."""
-    tips, parents, told = {}, {}, []
-    for word, node, *rest in (outcome for outcome in report.outcomes if outcome[0] in ('built', 'switched', 'full')):
-        sequence, ledger = rest[:2]
-        if word == 'full':
-            told.append(Told(node, int(sequence), ledger))
-            continue
-        if word == 'built':
-            parents.setdefault(ledger, tips.get(node, ROOT))
-        tips[node] = ledger
-    return told, parents
+    """The reports in order."""
+    return [Told(node, int(sequence), ledger) for word, node, sequence, ledger in (it[:4] for it in report.outcomes if it[0] == 'full')]
 
 
 def follows(parents, ledger, earlier):
@@ -42,11 +43,11 @@ def follows(parents, ledger, earlier):
 
 def two_branches(report):
     """The first two reports of different sequences that stand on two branches, the lower one first; or None."""
-    told, parents = told_in(report)
+    told = told_in(report)
     for place, late in enumerate(told):
         for early in told[:place]:
             low, high = sorted((early, late), key=lambda it: it.sequence)
-            if low.sequence < high.sequence and not follows(parents, high.ledger, low.ledger):
+            if low.sequence < high.sequence and not follows(report.parents, high.ledger, low.ledger):
                 return low, high
     return None
 
@@ -86,8 +87,8 @@ class Rounds:
 class Smaller:
     """The schedule without what isn't needed for its two branches: `blocks` are those that are left by now."""
 
-    def __init__(self, rounds, replay):
-        self.rounds, self.replay, self.blocks = rounds, replay, [list(block) for block in rounds.blocks]
+    def __init__(self, rounds, program):
+        self.rounds, self.program, self.blocks = rounds, program, [list(block) for block in rounds.blocks]
         self.until = math.inf
 
     def text(self):
@@ -96,7 +97,7 @@ class Smaller:
     def put(self, place, *blocks):
         """Puts these blocks in the place of one, if two branches stay and there is time."""
         some = self.blocks[:place] + list(blocks) + self.blocks[place + 1 :]
-        if time.monotonic() < self.until and two_branches(self.replay(self.rounds.text(some))) is not None:
+        if time.monotonic() < self.until and two_branches(replayed(self.program, self.rounds.text(some))) is not None:
             self.blocks = some
 
     def shrink(self, until):

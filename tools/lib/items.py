@@ -1,11 +1,8 @@
 """The lines of a schedule as items that may be left out: each has a number of its own, and a delivery follows its frame."""
-import collections
-import os
-import select
-import subprocess
 from dataclasses import dataclass
 
 import schedules
+from beside import Beside
 
 # Which tokens of a line are sequences, seconds and moments; they are made small together, wherever one stands.
 NUMBERS = {
@@ -73,84 +70,44 @@ class Parts:
             self.items[event.index] = item.number
 
 
-class Asking:
-    """Which frames the items send, each as its delivery: `xl tell` runs beside, and is handed line after line.
-
-    So that all is told of the lines that were put, a question is put behind them, which changes nothing: once the
-    program begins with it, it is through with them. Behind a refused line nothing is sent."""
+class Asking(Beside):
+    """Which frames the items send, each as its delivery: `xl tell` runs beside, and is handed line after line."""
 
     def __init__(self, program):
-        streams = dict(stdin=subprocess.PIPE, stdout=subprocess.PIPE, stderr=subprocess.DEVNULL, bufsize=0)
-        self.process = subprocess.Popen([program, 'tell'], **streams)
-        os.set_blocking(self.process.stdin.fileno(), False)
-        self.unsent, self.lines, self.begun = [], collections.deque(), b''
+        super().__init__(program)
         self.items, self.nodes, self.numbers, self.nths, self.has_news = [], [], {}, {}, False
 
     def take(self, item):
         """The next item, which is no delivery."""
         if item.word == 'node':
             self.nodes.append(item.tokens[1])
-        self.put(item.number, item.content)
+        self.note(item.number, item.content)
         self.has_news = True
 
     def deliver(self, delivery):
         """Puts the delivery, if its frame is sent by then: the line, or None."""
         if delivery not in self.numbers and self.has_news and self.nodes:
-            self.put(None, 'prefer ' + self.nodes[0])
-            self.send()
-            self.read_up_to(len(self.items))
+            self.items.append(None)
+            self.hear()
             self.has_news = False
         if delivery not in self.numbers:
             return None
-        self.put(None, 'deliver %d' % self.numbers[delivery])
+        self.note(None, 'deliver %d' % self.numbers[delivery])
         return self.unsent[-1]
 
-    def put(self, number, line):
+    def note(self, number, line):
         self.items.append(number)
-        self.unsent.append(line)
+        self.put(line)
 
-    def send(self):
-        """Sends all lines that wait. What the program says meanwhile is read, so that neither waits for the other."""
-        left, self.unsent = memoryview('\n'.join([*self.unsent, '']).encode('latin-1')), []
-        try:
-            while left:
-                readable, writable, _ = select.select([self.process.stdout], [self.process.stdin], [])
-                if readable and not self.read():
-                    return
-                if writable:
-                    left = left[os.write(self.process.stdin.fileno(), left) :]
-        except BrokenPipeError:
-            pass  # why the program ended stands in what it said
-
-    def read(self):
-        """Whether the program said more, which is kept line by line."""
-        came = os.read(self.process.stdout.fileno(), 1 << 16)
-        *whole, self.begun = (self.begun + came).split(b'\n')
-        self.lines.extend(whole)
-        return came
-
-    def read_up_to(self, question):
-        """Takes what is told, up to the event in this line."""
-        while True:
-            while not self.lines:
-                if not self.read():
-                    return
-            word, *more = self.lines.popleft().split(maxsplit=4)
+    def hear(self):
+        """Takes what is told by now."""
+        for word, *more in self.ask(self.nodes[0]):
             if word == b'event':
                 self.line = int(more[0])
-                if self.line == question:
-                    return
             elif word == b'sent':
                 ends = self.items[self.line - 1], int(more[1]), int(more[2])
                 self.nths[ends] = self.nths.get(ends, -1) + 1
                 self.numbers[Delivery(*ends, self.nths[ends])] = int(more[0])
-
-    def close(self):
-        self.process.stdin.close()
-        while self.read():
-            pass
-        self.process.stdout.close()
-        self.process.wait()
 
 
 def all_numbers(items, kind):

@@ -1,6 +1,9 @@
 'use strict'
-const run = JSON.parse(document.getElementById('data').textContent)
 const byId = id => document.getElementById(id)
+const given = JSON.parse(byId('run').textContent)
+// what `tell` told of the run, drawn and in words
+const shown = new Steps(new Story(given.text, given.status, given.told, given.why), given.name, given.window)
+const run = shown.data()
 const steps = run.steps, numbers = Object.keys(run.nodes).map(Number)
 const members = run.members
 const first = steps.length ? steps[0].moment : 0
@@ -44,8 +47,18 @@ const head = (words, scope, kind) => {
 }
 const colour = ledger => run.ledgers[ledger][2] === 'mute' ? 'var(--mute)' : `var(--${run.ledgers[ledger][2]})`
 const nameOf = number => (run.liars.includes(number) ? 'liar ' : '') + number
-const seconds = ms => (ms / 1000).toLocaleString('en-US', {maximumFractionDigits: 3}) + ' s'
 const count = (n, what) => `${n} ${what}${n === 1 ? '' : 's'}`
+
+function drawHead() {
+  document.title = document.querySelector('h1').textContent = shown.timeline.title
+  byId('verdict').textContent = shown.words.verdict()
+  byId('verdict').classList.add(shown.words.kind())
+  byId('file').textContent = shown.name
+  byId('picture').insertAdjacentHTML('beforeend', shown.picture)
+  byId('notes').append(...shown.notes().map(it => make('p', it)), make('p', OF.ofOneSequence, 'keys'))
+  byId('about').append(...firstComment(shown.story.lines).map(it => make('p', it)))
+}
+drawHead()
 
 function ledgerWords(pair, none) {
   if (!pair) return make('span', none, 'none')
@@ -55,6 +68,7 @@ function ledgerWords(pair, none) {
   return found
 }
 
+// The ledger that most full words in the row name, and how many: a count of what stands there, which decides nothing.
 function best(state) {
   const votes = {}
   let found = null
@@ -144,14 +158,14 @@ function drawRounds() {
     const state = states[at][node], round = state.round, row = make('tr')
     if (at && steps[at - 1].node === node) row.className = 'here'
     row.append(head('Node ' + node, 'row'))
-    const [phase, mode, pending, ours, positions] = round, held = Object.values(positions)
+    const [phase, mode, pending, ours, , agreement] = round
     const name = make('td', phase, 'fact')
     if (mode !== 'proposing') name.append(make('span', ', ' + mode, 'none'))
     const stand = make('td', undefined, 'fact'), set = make('span', ours ? run.sets[ours[0]][0] : '–')
     if (ours) set.title = setWords(ours)
     stand.append(set)
     row.append(name, make('td', pending, 'fact'), stand)
-    row.append(make('td', ours ? `${held.filter(it => it[3]).length}/${held.length}` : '–', 'fact'))
+    row.append(make('td', ours ? agreement.join('/') : '–', 'fact'))
     row.append(...members.map(member => positionCell(node, member, round, state.list)))
     return row
   }))

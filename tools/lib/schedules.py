@@ -138,6 +138,7 @@ class Report:
         self.outcomes = [line for line in lines if line[0] not in ENDINGS]
         self.short = [[int(word) for word in line[1:]] for line in lines if line[0] == 'short']
         self.forged = sum(int(line[1]) for line in lines if line[0] == 'forged')
+        self.fork = next((line[1:] for line in lines if line[0] == 'fork'), None)
         self.last_line = int(self.bad[0]) - 1 if self.bad else None
 
 

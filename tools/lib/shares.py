@@ -6,6 +6,7 @@ import re
 from collections import namedtuple
 from html import escape
 
+import bounds
 import command
 import schedules
 import svg
@@ -44,7 +45,7 @@ def many(count, word):
 
 def last_short(setting, liars):
     """The greatest overlap with which two of the lists are short, with so many liars in it."""
-    return 2 * (setting.size - setting.quorum) + liars
+    return bounds.last_short(setting.size, setting.quorum, liars)
 
 
 class Tally:

@@ -46,6 +46,12 @@ def rules(colours):
     return plain % colours + ledgers
 
 
+def variables(colours):
+    """The scheme as variables of a page's style."""
+    named = ''.join('--%s:%s;' % pair for pair in colours.items() if pair[0] != 'ledgers')
+    return named + ''.join('--ledger%d:%s;' % pair for pair in enumerate(colours['ledgers']))
+
+
 def style(scheme):
     if scheme != 'auto':
         return FONT + rules(DARK if scheme == 'dark' else LIGHT)

@@ -81,18 +81,22 @@ def tell(program, text):
     return ended.returncode, ended.stdout.decode('latin-1').splitlines()
 
 
+def report_of(status, told):
+    """The report among these lines."""
+    own = tuple(word + ' ' for word in OWN)
+    return schedules.Report(status, ''.join(line + '\n' for line in told if not line.startswith(own)))
+
+
 class Story:
     """A schedule, its events with what each node holds behind them, and its report.
 
     `before` has what each node holds before the first event, and `behind` for each event what its node then holds,
     if it has one."""
 
-    def __init__(self, program, text):
+    def __init__(self, program, text, asked=None):
         self.lines = schedules.read_lines(text)
-        status, told = tell(program, text)
-        own = tuple(word + ' ' for word in OWN)
-        report = ''.join(line + '\n' for line in told if not line.startswith(own))
-        self.report = schedules.Report(status, report)
+        status, told = asked or tell(program, text)
+        self.report = report_of(status, told)
         schedules.stop_on_problem(program, self.report)
         self.title = schedules.first_sentence(self.lines)
         self.declare(self.lines[: self.report.last_line])

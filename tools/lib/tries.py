@@ -6,6 +6,7 @@ import collections
 import command
 import refusals
 import schedules
+from beside import Beside
 from slack import slacks
 
 READ = ('xl-schedule', 'node', 'liar', 'limit', 'at', 'name')
@@ -47,7 +48,7 @@ class Lists:
 
     def __init__(self, text, program, as_declared=False):
         self.network, self.names, self.moment = schedules.Network(), [], 1000
-        self.lines, self.numbers = [], []
+        self.program, self.lines, self.numbers = program, [], []
         found, self.left_out = declarations(text)
         for number, tokens in found.items():
             self.take(number, tokens)
@@ -78,10 +79,14 @@ class Lists:
         return told
 
     def mute(self):
-        """The nodes that can't come to a report, since fewer of their members are heard than their quorum."""
-        heard = {*self.network.nodes, *self.network.liars}
-        nodes = sorted(self.network.nodes.items())
-        return [number for number, node in nodes if len(heard & set(node.members)) < node.quorum]
+        """The nodes that report nothing even if all say one ledger, and everybody hears it."""
+        nodes, liars, name, second = sorted(self.network.nodes), self.network.liars, self.names[0], self.moment // 1000
+        lines = ['xl-schedule 1', *self.lines, *('issue %d 1 %s full' % (it, name) for it in nodes), 'all']
+        lines += ['lie %d %d validation 1 %s %d full' % (liar, node, name, second) for liar in liars for node in nodes]
+        report = schedules.run_replay(self.program, '\n'.join([*lines, '']))
+        schedules.stop_on_problem(self.program, report)
+        told = {int(it[1]) for it in report.outcomes if it[0] == 'full'}
+        return [it for it in nodes if it not in told]
 
     def take(self, number, tokens):
         self.network.declare(tokens)
@@ -94,29 +99,25 @@ class Lists:
             self.numbers.append(number)
 
 
-class Savings:
-    """What each keeper holds, and who may issue. A try is made before anybody runs it, and yet has to number its frames."""
+class Sent(Beside):
+    """Whom each frame of a try was sent to, as `xl tell` says it: a try names frames by their numbers."""
 
-    def __init__(self):
-        self.kept, self.held, self.has_failed = {}, {}, set()
+    def __init__(self, lists):
+        super().__init__(lists.program)
+        self.program, self.node, self.taken = lists.program, min(lists.network.nodes), 0
+        self.receivers, self.has_news = [], False
 
-    def restart(self, node):
-        self.kept[node] = self.held.get(node, 0)
-        self.has_failed.discard(node)
+    def after(self, lines):
+        """The receivers of all frames that these lines send. A refused line ends the try's own run too, which is said then."""
+        if self.has_news:
+            for line in lines[self.taken :]:
+                self.put(line)
+            self.receivers += [int(words[3]) for words in self.ask(self.node) if words[0] == b'sent']
+            self.taken, self.has_news = len(lines), False
+        return self.receivers
 
-    def issue(self, node, sequence, torn=()):
-        """Whether the validation is sent; `torn` is empty, or `cut` or `fail` with `old` or `new`."""
-        asks = sequence > self.kept.get(node, 0) and node not in self.has_failed
-        word = torn[0] if torn else None
-        if asks and torn[1:] != ('old',):
-            self.held[node] = sequence
-        if asks and word == 'fail':
-            self.has_failed.add(node)
-        elif asks and word is None:
-            self.kept[node] = sequence
-        if word == 'cut':
-            self.restart(node)
-        return asks and word is None
+    def end(self):
+        schedules.stop_on_problem(self.program, schedules.Report(self.close(), ''))
 
 
 class Weather:
@@ -137,18 +138,24 @@ class Weather:
 
 
 class Try:
-    """One schedule. It follows the kept numbers, so that it knows which frames there are."""
+    """One schedule. Which of its frames there are by a line is asked of the program."""
 
     def __init__(self, lists, dice, heading, restarts=True):
         self.lists, self.dice, self.weather = lists, dice, Weather(dice, restarts)
         self.lines, self.moment = ['xl-schedule 1', '# ' + heading, *lists.lines], lists.moment
-        self.savings, self.receivers = Savings(), []
+        self.sent = Sent(lists)
         sequence = dice.choice((1, 1, 1, 5))
         for _ in range(dice.choice((1, 1, 2, 3))):
             self.hold_round(*self.choose_pair(), sequence)
             sequence += dice.choice((1, 1, 2))
             if self.happens(0.5):
                 self.go_to(self.moment + dice.choice((1, 1000, 4000, 200000)))
+        self.sent.end()
+
+    @property
+    def receivers(self):
+        """Whom each frame was sent to by now."""
+        return self.sent.after(self.lines)
 
     def text(self):
         return '\n'.join(self.lines) + '\n'
@@ -167,12 +174,10 @@ class Try:
 
     def restart(self, node):
         self.lines.append('restart %d' % node)
-        self.savings.restart(node)
 
     def issue(self, node, sequence, name, flag='full', torn=()):
         self.lines.append(' '.join([*torn, 'issue %d %d %s %s' % (node, sequence, name, flag)]))
-        if self.savings.issue(node, sequence, torn):
-            self.receivers += self.lists.network.others(node)
+        self.sent.has_news = True
 
     def vote(self, node, sequence, ours, other):
         """One node's vote, and what may go wrong around it."""
@@ -231,8 +236,8 @@ class Try:
     def hear(self, first, sequence, told, against):
         """The nodes in `told` hear what was said in the round, and from the liars what `told` says."""
         events = []
-        for place in range(first, len(self.receivers)):
-            if self.receivers[place] in told and not self.happens(self.weather.loss):
+        for place, receiver in list(enumerate(self.receivers))[first:]:
+            if receiver in told and not self.happens(self.weather.loss):
                 events += ['deliver %d' % (place + 1)] * (2 if self.happens(self.weather.repeat) else 1)
         if first and self.happens(self.weather.repeat):
             events += ['deliver %d' % self.dice.randint(1, first) for _ in range(3)]

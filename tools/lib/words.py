@@ -135,17 +135,14 @@ def seconds(moment):
     return '{:,.12g} s'.format(moment / 1000)
 
 
-def first_fork(events, names):
-    """The two reports of the first fork, the earlier one first: pairs of an event and its outcome."""
-    reports = {}
-    for event in events:
-        for outcome in event.outcomes and event.told('full'):
-            earlier = reports.setdefault(outcome[2], [])
-            for other in earlier:
-                if names.id_of(other[1][3]) != names.id_of(outcome[3]):
-                    return other, (event, outcome)
-            earlier.append((event, outcome))
-    return None
+def fork_of(story):
+    """The two reports that the report's last line names as a fork: pairs of an event and its outcome, or None."""
+    if not story.report.fork:
+        return None
+    sequence, one, its, other, theirs = story.report.fork
+    told = [(event, outcome) for event in story.events for outcome in event.told('full')]
+    of = lambda *words: next(it for it in told if (*it[1][1:3], story.names.id_of(it[1][3])) == words)
+    return of(one, sequence, story.names.id_of(its)), of(other, sequence, story.names.id_of(theirs))
 
 
 class Wording:
@@ -153,7 +150,7 @@ class Wording:
 
     def __init__(self, story):
         self.story, self.names = story, story.names
-        self.fork = first_fork(story.events, story.names)
+        self.fork = fork_of(story)
         self.branches = story.two_branches()
 
     def kind(self):

@@ -79,7 +79,7 @@ function draw() {
 function drawnView(command, words) {
   const {status, text} = state.told
   if (!Object.hasOwn(VIEWS, command) || ![0, 1, 3].includes(status)) return drawnText(words, command)
-  return VIEWS[command](new Story(latin(inputOf('tell')), status, latin(text)), state.name)
+  return VIEWS[command]({name: state.name, text: latin(inputOf('tell')), status, told: latin(text)})
 }
 
 function roundsField() {

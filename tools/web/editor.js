@@ -1,6 +1,5 @@
 // The editor: the colours of the grammar, and the line that is refused.
 'use strict'
-const known = JSON.parse(byId('known').textContent)
 const PATTERNS = known.grammar.map(({name, match}) => [new RegExp(match, 'y'), 'xl-' + name.split('.').at(-2)])
 
 // The length and the style of what stands at a place of a line.

@@ -83,17 +83,26 @@ function drawnPicture(text) {
 }
 
 const VIEWS = {
-  picture(story, name) {
-    const brief = story.events.length > MOST_EVENTS
+  picture({name, text, status, told}) {
+    const story = new Story(text, status, told), brief = story.events.length > MOST_EVENTS
     return drawnPicture(new Timeline(story, {first: null, last: null, brief, bare: false, scheme: 'auto', compact: true}, name).draw())
   },
 
-  steps(story, name) {
+  steps(run) {
     const frame = element('iframe', 'steps')
     frame.title = 'The run, step by step'
-    frame.srcdoc = new Steps(story, name).text(known.template)
+    frame.srcdoc = pageOf(run)
     return frame
   },
+}
+
+const inert = what => JSON.stringify(what).replace(/</g, '\\u003c')
+
+// The page of a run, as tools/page writes it.
+function pageOf(run) {
+  const {template, refusals, lines, said, drawing} = known
+  const values = {NAME: escaped(run.name), RUN: inert(run), KNOWN: inert({refusals, lines, said, drawing}), DRAWING: byId('drawing').textContent}
+  return template.split('@@').map((it, place) => place % 2 ? values[it] : it).join('')
 }
 
 function verdictOfLists(text) {

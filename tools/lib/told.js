@@ -41,6 +41,7 @@ class Report {
     this.bad = status === 3 ? words.pop().slice(1) : null
     this.short = words.filter(it => it[0] === 'short').map(it => it.slice(1).map(Number))
     this.forged = words.filter(it => it[0] === 'forged').reduce((sum, it) => sum + Number(it[1]), 0)
+    this.fork = words.find(it => it[0] === 'fork')?.slice(1)
     this.lastLine = this.bad ? Number(this.bad[0]) - 1 : Infinity
   }
 }
@@ -121,7 +122,7 @@ class Happening {
 
 const OPENED = {
   time: 0, quorum: 0, members: [], kept: 0, failed: null, relisted: false, report: null, prefers: null, on: ROOT, rows: new Map(),
-  phase: 'open', mode: 'proposing', pending: [], set: [], position: null, positions: new Map(),
+  phase: 'open', mode: 'proposing', pending: [], set: [], position: null, positions: new Map(), agreement: [0, 0],
 }
 
 function withEntry(map, key, value) {
@@ -187,6 +188,7 @@ class Held {
       case 'position': return {position: this.position(words)}
       case 'set': case 'pending': return {[word]: this.ids(words[0])}
       case 'proposal': return {positions: this.member(state.positions, words, it => this.position(it))}
+      case 'agreement': return {agreement: words.map(Number)}
     }
     return {}
   }

@@ -4,12 +4,13 @@ const OWN_LINES = /^(?:event|sent|held) /
 const linesIn = text => text.replace(/\n$/, '').split('\n').map(it => it.replace(/\r+$/, ''))
 
 class Story {
-  // Of the text and of what `tell` wrote each byte is one character.
-  constructor(text, status, told) {
+  // Of the text and of what `tell` wrote each byte is one character. If it is known, `why` the last line is refused.
+  constructor(text, status, told, why = null) {
     const lines = told.split('\n').slice(0, -1)
     this.lines = linesIn(text)
     this.report = new Report(status, lines.filter(it => !OWN_LINES.test(it)))
     this.title = firstSentence(this.lines)
+    this.why = why
     this.network = new Network()
     this.names = new Names()
     for (const tokens of this.lines.slice(0, this.report.lastLine).map(tokensOf)) this.declare(tokens)

@@ -1,17 +1,21 @@
-// The page of one story, to be stepped through: what tools/page writes of it.
+// The steps of one story, or of a window of its lines: each event of it, and what its node then holds.
 'use strict'
 const MOST_DRAWN = 1000, MOST_TOLD = 10
 const ofMap = (map, made) => Object.fromEntries(sorted(map.keys()).map(it => [it, made(map.get(it))]))
 const isSame = (one, other) => JSON.stringify(one) === JSON.stringify(other)
 
 class Steps {
-  constructor(story, name) {
-    const shown = {first: story.events.length <= MOST_DRAWN ? 1 : null, last: null, scheme: 'auto', bare: true, brief: false, compact: true}
+  // The window is the first and the last line that are shown, or null for either.
+  constructor(story, name, window) {
+    const [first, last] = window || [null, null], isAsked = first || last || story.events.length <= MOST_DRAWN
+    const drawn = {first: isAsked ? first || 1 : null, last, scheme: 'auto', bare: true, brief: false, compact: true}
     this.story = story
-    this.name = name
-    this.timeline = new Timeline(story, shown, name)
+    this.name = name + (first ? `, from line ${first}` : '') + (last ? `, to line ${last}` : '')
+    this.timeline = new Timeline(story, drawn, name)
     this.words = new Sentences(story)
     this.hasRounds = hasRounds(story.lines)
+    this.events = story.events.filter(it => (first || 1) <= it.line && it.line <= (last || it.line))
+    this.start = story.events.filter(it => it.line < (first || 1)).length
     Object.assign(this, {places: new Map(), ledgers: [], setPlaces: new Map(), sets: []})
     this.picture = this.timeline.draw()
     this.arrived = new Set(story.events.map(it => it.frame))
@@ -44,18 +48,19 @@ class Steps {
     return this.setPlaces.get(found)
   }
 
-  // A round: phase, mode, how many ids are pending, our position, and those of members with who agrees.
+  // A round: phase, mode, how many ids are pending, our position, those of members with whose set is ours, and how many
+  // of them agree.
   round(state) {
     const position = state.phase === 'open' ? null : state.position
     const ours = position && [this.set(position.set, state.set), position.sequence, position.close]
     const positions = ofMap(state.positions, it => [this.set(it.set), it.sequence, it.close, Number(position !== null && it.set === position.set)])
-    return [state.phase, state.mode, state.pending.length, ours, positions]
+    return [state.phase, state.mode, state.pending.length, ours, positions, state.agreement]
   }
 
-  // A row, with the event and the line by which it came.
+  // A row, with the line by which it came, and the event: below 0 if it came before the window.
   row({sequence, ledger, full, signed, event, validated}) {
     const {line} = this.story.events[event], place = this.ledger(ledger)
-    return [sequence, place, Number(full), signed, event, line, validated === null ? null : this.ledger(validated)]
+    return [sequence, place, Number(full), signed, event - this.start, line, validated === null ? null : this.ledger(validated)]
   }
 
   state(state) {
@@ -76,33 +81,47 @@ class Steps {
     return found
   }
 
+  // What each node holds before the window.
+  before() {
+    const found = new Map(this.story.before)
+    for (const {node, index} of this.story.events.slice(0, this.start)) if (found.has(node)) found.set(node, this.story.behind[index])
+    return ofMap(found, it => this.state(it))
+  }
+
+  // The frames that arrive in the window and were sent before it: sender, receiver, kind, line and height.
+  earlier() {
+    const frames = this.events.filter(it => it.frame).map(it => this.story.frames[it.frame - 1]).filter(it => it.event < this.start)
+    return Object.fromEntries(frames.map(it => [it.number, [it.sender, it.receiver, it.kind, this.story.events[it.event].line, rounded(this.timeline.y.get(it.event))]]))
+  }
+
+  // The places of two events in the window, if both are there.
+  both(events) {
+    const places = events.map(it => it.index - this.start)
+    return places.every(it => 0 <= it && it < this.events.length) ? places : []
+  }
+
   data() {
-    const {network, events, behind} = this.story, before = ofMap(this.story.before, it => this.state(it))
-    const steps = events.map((it, place) => this.step(it, behind[place])), last = {...before}
+    const {network, behind} = this.story, before = this.before(), last = {...before}
+    const steps = this.events.map(it => this.step(it, behind[it.index]))
     for (const step of steps.filter(it => it.state)) {
       const now = step.state
       step.state = changesOf(last[step.node], now)
       last[step.node] = now
     }
     const found = {
-      file: this.name, nodes: ofMap(network.nodes, it => it.observes), members: network.members(), liars: sorted(network.liars), before, steps,
-      earlier: {}, part: 0, top: rounded(this.timeline.top), x: ofMap(this.timeline.x, rounded),
-      fork: (this.words.fork || []).map(([event]) => event.index), branches: this.words.branches.slice(0, 1).flat().map(it => it.event.index),
-      ledgers: this.ledgers,
+      nodes: ofMap(network.nodes, it => it.observes), members: network.members(), liars: sorted(network.liars), before, steps,
+      earlier: this.earlier(), part: this.events.length < this.story.events.length,
+      top: rounded(this.timeline.top), x: ofMap(this.timeline.x, rounded),
+      fork: this.both((this.words.fork || []).map(([event]) => event)),
+      branches: this.both(this.words.branches.slice(0, 1).flat().map(it => it.event)), ledgers: this.ledgers,
     }
     return this.hasRounds ? {...found, sets: this.sets} : found
   }
 
-  // The page, by its template.
-  text(template) {
-    const {bad, forged} = this.story.report, paragraphs = some => some.map(it => `<p>${escaped(it)}</p>`).join('')
-    const notes = [...this.words.warnings(MOST_TOLD), ...this.words.notes(), ...(bad || forged ? [] : ['No frame is forged.'])]
-    const values = {
-      TITLE: escaped(this.timeline.title), FILE: escaped(this.name), KIND: this.words.kind(), VERDICT: escaped(this.words.verdict()),
-      NOTES: paragraphs(notes), ABOUT: paragraphs(firstComment(this.story.lines)), PICTURE: this.picture,
-      DATA: JSON.stringify(this.data()).replace(/</g, '\\u003c'), ONE: OF.ofOneSequence,
-    }
-    return template.split('@@').map((it, place) => place % 2 ? values[it] : it).join('')
+  // What is said below the report.
+  notes() {
+    const {bad, forged} = this.story.report
+    return [...this.words.warnings(MOST_TOLD), ...this.words.notes(), ...(bad || forged ? [] : ['No frame is forged.'])]
   }
 }
 

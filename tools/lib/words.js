@@ -4,16 +4,12 @@ const {refusals: REFUSALS, lines: REFUSED_LINES, said: OF} = known
 const KINDS = OF.kinds
 const causeOfRefusal = (code, values) => fill((REFUSALS[code] || ['', ''])[0], values.length ? values : ['?'])
 
-// The two reports of the first fork, the earlier one first: pairs of an event and its outcome.
-function firstFork(events, names) {
-  const reports = new Map()
-  for (const [event, outcome] of events.flatMap(event => event.told('full').map(it => [event, it]))) {
-    if (!reports.has(outcome[2])) reports.set(outcome[2], [])
-    const earlier = reports.get(outcome[2]), other = earlier.find(it => names.idOf(it[1][3]) !== names.idOf(outcome[3]))
-    if (other) return [other, [event, outcome]]
-    earlier.push([event, outcome])
-  }
-  return null
+// The two reports that the report's last line names as a fork: pairs of an event and its outcome, or null.
+function forkOf({events, names, report}) {
+  if (!report.fork) return null
+  const [sequence, one, its, other, theirs] = report.fork, told = events.flatMap(event => event.told('full').map(it => [event, it]))
+  const of = (node, ledger) => told.find(([, it]) => it[1] === node && it[2] === sequence && names.idOf(it[3]) === names.idOf(ledger))
+  return [of(one, its), of(other, theirs)]
 }
 
 // Groups of numbers, of which each two have the same pairs with all others, and with themselves.
@@ -48,7 +44,7 @@ class Wording {
   constructor(story) {
     this.story = story
     this.names = story.names
-    this.fork = firstFork(story.events, story.names)
+    this.fork = forkOf(story)
     this.branches = story.twoBranches()
   }
 
@@ -126,7 +122,10 @@ class Wording {
 
   verdict() {
     const {bad} = this.story.report
-    if (bad) return `Line ${bad[0]} is refused (code ${bad[1]}), and the run ends there: ${fill(REFUSED_LINES[bad[1]] || 'code ' + bad[1], bad.slice(2))}.`
+    if (bad) {
+      const why = this.story.why || fill(REFUSED_LINES[bad[1]] || 'code ' + bad[1], bad.slice(2))
+      return `Line ${bad[0]} is refused (code ${bad[1]}), and the run ends there: ${why}${why.endsWith('?') ? '' : '.'}`
+    }
     if (this.fork) {
       const [[, one], [, other]] = this.fork, short = it => this.names.short(it)
       return `Fork at #${one[2]}: node ${one[1]} reports ${short(one[3])}, node ${other[1]} reports ${short(other[3])}.`
