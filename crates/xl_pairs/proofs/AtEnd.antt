@@ -5,11 +5,12 @@ use Rattle.xl_lines.specs.declared.machine.Verdict.TheVariants.{Good, Refused}
 use Rattle.xl_lines.specs.Rules.{Step, closes}
 use Rattle.xl_lines.specs.Ends.{FindsNothing, FindsAtEnd}
 use Rattle.xl_sched.specs.Answers.{LineAnswer, passes, gives, refuses, reading_of}
+use Rattle.xl_sched.specs.BadLines.{bad_line}
 use Rattle.xl_sched.specs.declared.line.Line.{Line}
 use Rattle.xl_sched.specs.declared.line.Line.TheVariants as line
 use Rattle.xl_sched.specs.declared.refusal.SchedRefusal.TheVariants.{Header}
 use Rattle.xl_pairs.specs.Comparing.{Comparing, after_answer, unless_foreign, told_at_end, rules}
-use Rattle.xl_pairs.specs.Texts.{bad_line, pair_lines}
+use Rattle.xl_pairs.specs.Texts.{pair_lines}
 use Rattle.xl_pairs.specs.Words.{foreign_word}
 
 answer_finds : (c : Comparing) (answer : LineAnswer) → FindsNothing (after_answer c answer)

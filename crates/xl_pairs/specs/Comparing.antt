@@ -1,23 +1,21 @@
 -- What is written of the lists of a schedule. Source: this project's own formats.
-use Rattle.std.specs.Prelude.{ℕ, ◌+◌, ◌==◌, List, [], ◌∷◌, ◌++◌, decimal, Option, Some, None, if◌then◌else◌}
+use Rattle.std.specs.Prelude.{ℕ, ◌+◌, ◌==◌, List, [], ◌∷◌, ◌++◌, Option, Some, None, if◌then◌else◌}
 use Rattle.xl_lines.specs.declared.limits.Limits.{Limits}
-use Rattle.xl_lines.specs.declared.limits.Overrun.{Overrun}
-use Rattle.xl_lines.specs.declared.limits.Overrun.TheVariants as overrun
 use Rattle.xl_lines.specs.declared.limits.Returns.TheVariants.{Dropped}
 use Rattle.xl_lines.specs.declared.machine.Verdict.TheVariants.{Good, Refused}
 use Rattle.xl_lines.specs.Rules.{Rules, Step, goes_on, refuses as refuses_line, Told, closes}
 use Rattle.xl_lines.specs.Told.{told_of}
 use Rattle.xl_lines.specs.Soon.{told_soon}
+use Rattle.xl_sched.specs.BadLines.{bad_line, beyond}
 use Rattle.xl_sched.specs.Limits.{most_bytes, most_lines}
 use Rattle.xl_sched.specs.declared.line.Line.{Line}
 use Rattle.xl_sched.specs.declared.line.Line.TheVariants as line
-use Rattle.xl_sched.specs.declared.refusal.SchedRefusal.{SchedRefusal}
-use Rattle.xl_sched.specs.declared.refusal.SchedRefusal.TheVariants.{Header, LongLine, Limit, Word}
+use Rattle.xl_sched.specs.declared.refusal.SchedRefusal.TheVariants.{Header, Word}
 use Rattle.xl_sched.specs.Reading.{Reading, opened}
 use Rattle.xl_sched.specs.Answers.{LineAnswer, passes, gives, refuses, reading_of}
 use Rattle.xl_texts.specs.Promises.{Promise, on, if_read}
 use Rattle.xl_pairs.specs.declared.declared.Node.{Node}
-use Rattle.xl_pairs.specs.Texts.{bad_line, pair_lines}
+use Rattle.xl_pairs.specs.Texts.{pair_lines}
 use Rattle.xl_pairs.specs.Words.{foreign_word}
 
 -- what was read, and the nodes and liars that are declared
@@ -52,10 +50,6 @@ abbrev pub step_of : Comparing → List ℕ → Step Comparing
 step_of c bytes =
     if c.reading.lines == 0 then after_answer c (reading_of c.reading 0 bytes)
     else unless_foreign c (foreign_word bytes) bytes
-
-abbrev pub beyond : Overrun → SchedRefusal
-beyond overrun.LongLine = LongLine (decimal most_bytes)
-beyond overrun.ManyLines = Limit (decimal most_lines)
 
 -- the end of a schedule: one with no line lacks its header
 abbrev pub told_at_end : Comparing → Told

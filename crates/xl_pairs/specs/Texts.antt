@@ -4,9 +4,6 @@ use Rattle.std.specs.Prelude.{ℕ, zero, suc, ◌+◌, ◌-◌, ◌*◌, ◌==�
 use Rattle.std.specs.List.{flat_map}
 use Rattle.xl_lists.specs.Lists.{TrustedList}
 use Rattle.xl_lists.specs.Quorums.{overlap, liars_shared, bound_of}
-use Rattle.xl_sched.specs.declared.refusal.SchedRefusal.{SchedRefusal}
-use Rattle.xl_sched.specs.Refusals.{code_of, token_of}
-use Rattle.xl_sched.specs.Tokens.{shown_token}
 use Rattle.xl_pairs.specs.declared.declared.Node.{Node}
 
 abbrev pub space : List ℕ
@@ -14,12 +11,6 @@ space = codes " "
 
 abbrev pub newline : List ℕ
 newline = 10 ∷ []
-
--- a refused line
-abbrev pub bad_line : ℕ → SchedRefusal → List ℕ
-bad_line n refusal =
-    codes "bad " ++ decimal n ++ space ++ decimal (code_of refusal) ++ space ++ shown_token (token_of refusal)
-    ++ newline
 
 unfoldable pub enough_text : Bool → List ℕ
 enough_text enough = if enough then codes "ok" else codes "short"

@@ -1,15 +1,14 @@
 // The machine of `xl lists`.
-ghost use Rattle.std.specs.Prelude.{◌≡◌, ◌+◌, [], IfOk, OnOk, string_bytes, decimal};
-ghost use Rattle.xl_pairs.specs.Comparing.{beyond};
-ghost use Rattle.xl_pairs.specs.Texts.{bad_line};
+ghost use Rattle.std.specs.Prelude.{◌≡◌, ◌+◌, [], IfOk, OnOk, string_bytes};
+ghost use Rattle.xl_sched.specs.BadLines.{bad_line};
 
 use crate::declared::Node;
-use crate::texts::{push_bad, push_pairs};
+use crate::texts::push_pairs;
 use crate::words::foreign_word;
 use std::alloc::Global;
 use xl_base::{Bytes, NodeNo, OutOfMemory};
 use xl_lines::{Machine, Next, Overrun, Verdict};
-use xl_sched::{Line, MOST_BYTES, MOST_LINES, Reader, SchedRefusal};
+use xl_sched::{Line, Reader, SchedRefusal, beyond, push_bad};
 
 /// A schedule so far: what was read, and the nodes and liars that are declared.
 #[derive(Drop)]
@@ -141,20 +140,4 @@ impl Machine for Comparer {
         push_pairs(text, &self.liars, &self.nodes)?;
         Ok(Verdict::Good)
     }
-}
-
-/// The refusal of a line beyond a limit.
-fn beyond(alloc: Global, overrun: Overrun) -> Result<SchedRefusal, OutOfMemory>
-    ensures { IfOk result (λ refusal. refusal ≡ beyond overrun) }
-{
-    match overrun {
-        Overrun::LongLine => Ok(SchedRefusal::LongLine(decimal(alloc, MOST_BYTES as u64)?)),
-        Overrun::ManyLines => Ok(SchedRefusal::Limit(decimal(alloc, u64::from(MOST_LINES))?)),
-    }
-}
-
-fn decimal(alloc: Global, number: u64) -> Result<Bytes, OutOfMemory>
-    ensures { IfOk result (λ bytes. bytes ≡ decimal number) }
-{
-    Ok(Bytes::from_vec(number.to_string(alloc)?.into_bytes()))
 }

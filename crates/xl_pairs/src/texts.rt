@@ -4,7 +4,7 @@ ghost use Rattle.std.specs.List.{flat_map};
 ghost use Rattle.std.specs.String.{string_bytes};
 ghost use Rattle.xl_base.specs.Members.{greatest_node_no};
 ghost use Rattle.xl_lists.specs.Quorums.{liars_shared as liars_shared_of};
-ghost use Rattle.xl_pairs.specs.Texts.{bad_line, enough_text, pair_numbers, pair_text, pair_line};
+ghost use Rattle.xl_pairs.specs.Texts.{enough_text, pair_numbers, pair_text, pair_line};
 ghost use Rattle.xl_pairs.specs.Texts.{yes_text, paper_numbers, paper_text, paper_line};
 ghost use Rattle.xl_pairs.specs.Texts.{papers_of, list_in, pair_with, pairs_of, pair_lines, up_from};
 
@@ -12,18 +12,6 @@ use crate::declared::{Node, list_in};
 use std::fmt::Write;
 use xl_base::{GREATEST_NODE_NO, NodeNo, OutOfMemory};
 use xl_lists::{List, bound, overlap};
-use xl_sched::{SchedRefusal, printed_token};
-
-/// The line that says why a line of the schedule is refused.
-pub fn push_bad(text: &mut String, line: u64, refusal: &SchedRefusal) -> Result<(), OutOfMemory>
-    ensures { OnOk result (string_bytes text.new ≡ string_bytes text.old ++ bad_line line refusal.now) }
-{
-    let code = refusal.code();
-    write!(text, "bad {line} {code} ")?;
-    printed_token(refusal.token(), text)?;
-    text.push('\n')?;
-    Ok(())
-}
 
 /// The pairs of nodes, by rising numbers.
 pub fn push_pairs(text: &mut String, liars: &[NodeNo], nodes: &[Node]) -> Result<(), OutOfMemory>

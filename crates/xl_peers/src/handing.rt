@@ -1,4 +1,5 @@
 ghost use Rattle.std.specs.Prelude.{◌≡◌, false, OnOk, IfErr};
+ghost use Rattle.xl_wire.specs.Raws.{SpellsRaw, raw_frame};
 ghost use Rattle.xl_store.specs.Stores.{IsOf, Refused};
 ghost use Rattle.xl_peers.specs.Sessions.{NeedsMore};
 ghost use Rattle.xl_peers.specs.Going.{HandsOver, HandsNext, HandsAll, HandsPiece};
@@ -11,7 +12,7 @@ use xl_io::Keeper;
 use xl_ledger::Branch;
 use xl_links::{Clock, Gate, Link};
 use xl_store::{Pass, Store, StoreEnd};
-use xl_wire::{Feed, Next};
+use xl_wire::{Feed, Next, Raw};
 
 /// Hands a frame to the core, between two passes of the gate, and tells the link how it was judged.
 fn hand_frame<W: Wait, B: Branch + Drop, K: Keeper + Drop, L: Link, G: Gate, C: Clock>(
@@ -20,16 +21,18 @@ fn hand_frame<W: Wait, B: Branch + Drop, K: Keeper + Drop, L: Link, G: Gate, C: 
     pass: &mut Pass,
     passes: &mut u64,
     link: &mut L,
+    raw: &Raw<'_>,
     frame: &[u8],
 ) -> Result<(), StoreEnd>
     requires pass { IsOf store.now pass.old }
+    requires whole { SpellsRaw (raw_frame raw.now) frame.now }
     ensures pass { IsOf store.now pass.new }
     ensures wire { L.shows link.new ≡ L.shows link.old }
     ensures handed { OnOk result (HandsOver store.now (C.may_give host.now.clock.now) pass.old frame.now pass.new) }
     ensures refused { IfErr result (λ end. Refused store.now pass.old end pass.new) }
 {
     host.gate.pass(passes.wrapping_add(1));
-    let answer = store.frame(host.rt, pass, host.clock.now(), frame);
+    let answer = store.whole_frame(host.rt, pass, host.clock.now(), raw, frame);
     *passes = passes.wrapping_add(2);
     host.gate.pass(*passes);
     match answer {
@@ -57,10 +60,12 @@ fn hand_next<W: Wait, B: Branch + Drop, K: Keeper + Drop, L: Link, G: Gate, C: C
     ensures handed { HandsNext store.now (C.may_give host.now.clock.now) pass.old feed.old result pass.new feed.new }
 {
     match feed.next() {
-        Next::Frame(frame) => match hand_frame(host, store, pass, passes, link, frame) {
-            Ok(()) => Ok(true),
-            Err(end) => Err(end_of(end)),
-        },
+        Next::Frame(raw, frame) => {
+            match hand_frame(host, store, pass, passes, link, &raw, frame) {
+                Ok(()) => Ok(true),
+                Err(end) => Err(end_of(end)),
+            }
+        }
         Next::Need(_) => Ok(false),
         Next::Refused(refusal) => Err(End::Framing(refusal)),
     }

@@ -19,3 +19,4 @@ pub mod Words
 pub mod Fits
 pub mod Answers
 pub mod Favors
+pub mod BadLines

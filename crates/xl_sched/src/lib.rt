@@ -5,12 +5,13 @@
 //! `deliver`, `all`, `drop`, `greet`, `restart`, `cut`, `fail`, `list`, `lie`, `raw`, `prefer` or `heard`. Empty lines
 //! and those that begin with `#` say nothing.
 //!
-//! Its tokens, numbers and faults are there for other readers of lines, as xl_merge.
+//! Its tokens, numbers, faults and the line of a refusal are there for other readers of lines, as xl_merge.
 //!
-//! It stands on xl_base, xl_lists, xl_ledger, xl_wire and the kit's `hex`. Its one contract: what `Reader::read_line`
+//! It stands on xl_base, xl_lines, xl_lists, xl_ledger, xl_wire and the kit's `hex`. Its one contract: what `Reader::read_line`
 //! answers is the grammar, and a refused line changes nothing.
 #![tactic(auto)]
 
+mod bad_lines;
 mod choices;
 mod event;
 mod fault;
@@ -31,6 +32,7 @@ mod tokens;
 mod tx_sets;
 mod word;
 
+pub use bad_lines::{beyond, push_bad};
 pub use choices::full;
 pub use event::{Ask, Event, Lied, What};
 pub use fault::{Cause, LineFault};

@@ -1,7 +1,8 @@
 use Rattle.std.proofs.Common.{◌≡◌, ◌∙◌, ap, not, unwrap_or, length, arith}
 use Rattle.std.specs.List.{position_or_len}
 use Rattle.xl_sched.specs.Tokens.{is_blank}
-use Rattle.xl_pairs.proofs.Placing.{position_or_len-unwrap, position_or_len-within}
+use Rattle.xl_sched.proofs.TokenLemmas.{position_or_len-unwrap}
+use Rattle.xl_pairs.proofs.Placing.{position_or_len-within}
 use Rattle.xl_pairs.proofs.words.start_of.Goals as goal
 use Rattle.xl_pairs.proofs.words.start_of.Goals.{After-unwrap_or}
 
