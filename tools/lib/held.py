@@ -67,11 +67,6 @@ class State:
             if row.full and (row.sequence, row.ledger) == (sequence, ledger)
         ]
 
-    def agreeing(self):
-        """The members whose positions name the node's own set."""
-        ours = self.position
-        return [member for member, it in sorted(self.positions.items()) if ours and it.set == ours.set]
-
 
 class Held:
     """Takes `held` lines: each changes what the node is told to hold."""

@@ -240,11 +240,8 @@ class Wording:
     def who(self, number):
         return ('node %s' if int(number) in self.story.network.nodes else 'liar %s') % number
 
-    def sentence(self, event):
-        """What happens, as a whole sentence."""
-        return capital(self.said(event)) + '.'
-
     def said(self, event):
+        """What happens, as a sentence without its full stop."""
         tokens, node = event.tokens, event.node
         if event.word in ('cut', 'fail'):
             return self.torn_in_words(event, schedules.inner_event(tokens))

@@ -65,21 +65,23 @@ function draw() {
   const {command, words, left} = state.told, refused = command !== 'show' && command !== 'gen' && state.told.status === 3
   mark.clear()
   if (refused) mark.put(Number(lastWords(words)[1]), causeOf(lastWords(words)[2], lastWords(words).slice(3)))
-  say(...verdictOf(command, state.told, words))
+  const drawn = drawnRun(command)
+  say(...verdictOf(command, state.told, words, drawn && drawn.story))
   byId('took').textContent = state.told.fault ? '' : `status ${state.told.status}, ${state.told.ms.toFixed(1)} ms, ${(state.told.memory / 1048576).toFixed(1)} MB`
   const begin = Object.hasOwn(VIEWS, command) ? '' : `xl ${command}${command === 'gen' ? ' ' + state.rounds : ''}: `
   const parts = [element('p', 'says', `${begin}${SAYS[command]}.`)]
   if (command === 'gen') parts.push(roundsField())
   if (left && left.length) parts.push(element('p', 'says', `Left out, since lists reads no such lines: ${left.join(', ')}.`))
   if (command === 'lists' && state.told.status === 0) parts.push(matrixOf(words))
-  byId('told').replaceChildren(...parts, drawnView(command, words))
+  byId('told').replaceChildren(...parts, drawn ? VIEWS[command](drawn) : drawnText(words, command))
 }
 
-// A text, or of a run that came to its end what is drawn of it.
-function drawnView(command, words) {
+// A run that came to its end, if it is to be drawn.
+function drawnRun(command) {
   const {status, text} = state.told
-  if (!Object.hasOwn(VIEWS, command) || ![0, 1, 3].includes(status)) return drawnText(words, command)
-  return VIEWS[command]({name: state.name, text: latin(inputOf('tell')), status, told: latin(text)})
+  if (!Object.hasOwn(VIEWS, command) || ![0, 1, 3].includes(status)) return null
+  const run = {name: state.name, text: latin(inputOf('tell')), status, told: latin(text)}
+  return {run, story: new Story(run.text, run.status, run.told)}
 }
 
 function roundsField() {

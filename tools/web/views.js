@@ -60,19 +60,24 @@ function cellOf(pair) {
   return cell
 }
 
+const ENDS = {fork: 'wrong', branches: 'warned', quiet: '', agree: 'good'}
 const OF_REPORTS = ['replay', 'tell', 'picture', 'steps', 'gen']
 
 // What is said of a run in one sentence, and whether it is good.
-function verdictOf(command, told, text) {
+function verdictOf(command, told, text, story) {
   if (told.fault) return [`The program ended: ${told.fault}`, 'wrong']
   if (told.status === 6) return ['Memory ran out.', 'wrong']
   if (told.status === 3) return [refusalOf(command, lastWords(text)), 'wrong']
   if (command === 'lists') return verdictOfLists(text)
   if (!OF_REPORTS.includes(command)) return ['All is written.', 'good']
+  if (story) return endOf(new Wording(story))
   const [, sequence, one, its, other, theirs] = lastWords(text)
   if (told.status === 1) return [`Fork at sequence ${sequence}: node ${one} reports ${its}, and node ${other} reports ${theirs}.`, 'wrong']
-  return ['Agreed: no two reports of one sequence differ.', 'good']
+  // a line for each report, or of `gen` their number
+  return /^full [1-9]/m.test(text) ? [OF.verdicts.agree, 'good'] : [OF.verdicts.quiet, '']
 }
+
+const endOf = words => [words.verdict(), ENDS[words.kind()]]
 
 // A picture is drawn where its style reaches nothing else: as wide as the pane, if its words are still read then.
 function drawnPicture(text) {
@@ -83,12 +88,12 @@ function drawnPicture(text) {
 }
 
 const VIEWS = {
-  picture({name, text, status, told}) {
-    const story = new Story(text, status, told), brief = story.events.length > MOST_EVENTS
-    return drawnPicture(new Timeline(story, {first: null, last: null, brief, bare: false, scheme: 'auto', compact: true}, name).draw())
+  picture({story, run}) {
+    const brief = story.events.length > MOST_EVENTS
+    return drawnPicture(new Timeline(story, {first: null, last: null, brief, bare: false, scheme: 'auto', compact: true}, run.name).draw())
   },
 
-  steps(run) {
+  steps({run}) {
     const frame = element('iframe', 'steps')
     frame.title = 'The run, step by step'
     frame.srcdoc = pageOf(run)
