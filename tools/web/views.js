@@ -45,11 +45,13 @@ function matrixOf(text) {
   const pairs = linesOf(text).map(it => it.split(' ')).filter(it => it[0] === 'pair')
   const numbers = [...new Set(pairs.flatMap(it => [it[1], it[2]]))].sort((a, b) => a - b)
   const cells = new Map(pairs.map(it => [it[1] + ' ' + it[2], it]))
-  const head = element('tr', '', document.createElement('td'), ...numbers.map(it => element('th', '', it)))
-  const rows = numbers.map(one => element('tr', '', element('th', '', one), ...numbers.map(other => cellOf(cells.get(one + ' ' + other)))))
+  const head = element('tr', '', document.createElement('td'), ...numbers.map(it => headOf(it, 'col')))
+  const rows = numbers.map(one => element('tr', '', headOf(one, 'row'), ...numbers.map(other => cellOf(cells.get(one + ' ' + other)))))
   const caption = element('caption', '', 'Both quorums together, and what they must exceed so that no two reports of one sequence differ. A red pair is short.')
   return element('table', '', caption, head, ...rows)
 }
+
+const headOf = (words, scope) => Object.assign(element('th', '', words), {scope})
 
 function cellOf(pair) {
   if (!pair) return document.createElement('td')
