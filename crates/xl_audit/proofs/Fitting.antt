@@ -147,7 +147,7 @@ unless_fits : (cause : Option ListRefusal) (list : TrustedList) → (cause ≡ N
 unless_fits None list valid = valid refl
 unless_fits (Some why) list valid = tt
 
-trusted_fits : (members : List ℕ) (quorum : ℕ) → Holds IsValid (trusted_of members quorum)
+pub trusted_fits : (members : List ℕ) (quorum : ℕ) → Holds IsValid (trusted_of members quorum)
 trusted_fits members quorum =
     unless_fits (refusal_of members quorum) (record { members = rising members; quorum = quorum }) (unrefused members quorum)
 

@@ -19,7 +19,7 @@ use Rattle.xl_core.specs.Queues.{waiting_at, at_number, after_taking, count_fitt
 use Rattle.xl_core.specs.declared.the_core.greeting.Greeting.{Greeting}
 use Rattle.xl_core.specs.declared.item.Item.{Item}
 use Rattle.xl_core.specs.declared.report.Report.{Report}
-use Rattle.xl_core.proofs.Greeted.{frames_further, greeting_then}
+use Rattle.xl_core.proofs.Greeted.{fits_front, frames_further, greeting_then}
 use Rattle.xl_audit.specs.Pieces.{bytes_given, handed_out, HasDrained, HasHanded}
 
 abbrev Frames : Type 0
@@ -68,17 +68,6 @@ fits_more (Some f ∷ fs) part room le =
       ap (count_fitting (drop (count_fitting fs (part - length f)) fs)) left,
     ))
     (λ _. let whole : room - 0 ≡ room = omega arith in ap (count_fitting (Some f ∷ fs)) (sym whole) ∙ omega arith)
-
--- if not all of the first fit, none of the others does
-fits_front : (xs ys : Frames) (room : ℕ) → count_fitting xs room < length xs → count_fitting (xs ++ ys) room ≡ count_fitting xs room
-fits_front [] ys room lt = absurd (omega (arith, lt))
-fits_front (None ∷ xs) ys room lt = ap suc (fits_front xs ys room (omega (arith, lt)))
-fits_front (Some f ∷ xs) ys room lt =
-    by (nat_le (length f) room) (count_fitting xs (room - length f)) (count_fitting (xs ++ ys) (room - length f)) (length xs) (fits_front xs ys (room - length f)) lt
-  where
-    by : (b : Bool) (k k' n : ℕ) → (k < n → k' ≡ k) → cond b (suc k) 0 < suc n → cond b (suc k') 0 ≡ cond b (suc k) 0
-    by true k k' n same lt = ap suc (same (omega (arith, lt)))
-    by false k k' n same lt = refl
 
 -- if all of them do, the others are behind them
 fits_behind : (xs ys : Frames) (room : ℕ) → count_fitting xs room ≡ length xs → length xs ≤ count_fitting (xs ++ ys) room

@@ -4,11 +4,11 @@ use Rattle.std.proofs.lemmas.Bool.{cond_both}
 use Rattle.xl_lines.specs.declared.machine.Verdict.TheVariants.{Good, Refused}
 use Rattle.xl_lines.specs.Rules.{closes}
 use Rattle.xl_lines.specs.Ends.{FindsNothing, FindsAtEnd}
+use Rattle.xl_sched.specs.BadLines.{bad_line}
 use Rattle.xl_sched.specs.declared.refusal.SchedRefusal.{SchedRefusal}
 use Rattle.xl_sched.specs.declared.refusal.SchedRefusal.TheVariants.{Header}
 use Rattle.xl_merge.specs.declared.line.Line.{Line}
 use Rattle.xl_merge.specs.Merging.{Merging, step_of_line, bounded_line, told_at_end, rules}
-use Rattle.xl_merge.specs.Texts.{bad_line}
 
 answer_finds : (m : Merging) (line : Result (Option Line) SchedRefusal) → FindsNothing (step_of_line m line)
 answer_finds m (Ok None) = tt

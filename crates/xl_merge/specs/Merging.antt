@@ -1,8 +1,6 @@
 -- What `xl merge` tells of its lines. Source: this project's own formats.
 use Rattle.std.specs.Prelude.{ℕ, ◌+◌, ◌/◌, ◌==◌, nat_lt, List, [], length, decimal, Option, Some, None, Result, Ok, Err, if◌then◌else◌}
 use Rattle.xl_lines.specs.declared.limits.Limits.{Limits}
-use Rattle.xl_lines.specs.declared.limits.Overrun.{Overrun}
-use Rattle.xl_lines.specs.declared.limits.Overrun.TheVariants as overrun
 use Rattle.xl_lines.specs.declared.limits.Returns.TheVariants.{Dropped}
 use Rattle.xl_lines.specs.declared.machine.Verdict.TheVariants.{Good, Refused}
 use Rattle.xl_lines.specs.Rules.{Rules, Step, goes_on, refuses, Told, closes}
@@ -10,6 +8,7 @@ use Rattle.xl_lines.specs.Told.{told_of}
 use Rattle.xl_lines.specs.Soon.{told_soon}
 use Rattle.xl_publish.specs.Forces.{list_at}
 use Rattle.xl_publish.specs.Registers.{Register, no_publishers, after_key, after_roll, answer_to}
+use Rattle.xl_sched.specs.BadLines.{bad_line, beyond}
 use Rattle.xl_sched.specs.Limits.{most_bytes, most_lines}
 use Rattle.xl_sched.specs.declared.refusal.SchedRefusal.{SchedRefusal}
 use Rattle.xl_sched.specs.declared.refusal.SchedRefusal.TheVariants.{Header, LongLine, Limit}
@@ -18,7 +17,7 @@ use Rattle.xl_texts.specs.Promises.{Promise, on, if_read}
 use Rattle.xl_merge.specs.declared.line.Line.{Line}
 use Rattle.xl_merge.specs.declared.line.Line.TheVariants as line
 use Rattle.xl_merge.specs.Lines.{header_line, later_line}
-use Rattle.xl_merge.specs.Texts.{bad_line, roll_text, list_text}
+use Rattle.xl_merge.specs.Texts.{roll_text, list_text}
 
 -- what is known of the lines that were read
 pub record Merging : Type 0 where
@@ -71,10 +70,6 @@ step_of_line m (Err refusal) = refuses (bad_line (m.lines + 1) refusal)
 -- the answer to a line
 abbrev pub step_of : Merging → List ℕ → Step Merging
 step_of m bytes = step_of_line m (bounded_line m bytes)
-
-abbrev pub beyond : Overrun → SchedRefusal
-beyond overrun.LongLine = LongLine (decimal most_bytes)
-beyond overrun.ManyLines = Limit (decimal most_lines)
 
 -- the end of the lines: if there is none the header is lacking
 abbrev pub told_at_end : Merging → Told

@@ -8,21 +8,12 @@ use Rattle.xl_publish.specs.declared.publishers.Took.TheVariants.{New, Kept}
 use Rattle.xl_publish.specs.declared.refusal.RollRefusal.{RollRefusal}
 use Rattle.xl_publish.specs.declared.refusal.RollRefusal.TheVariants as roll
 use Rattle.xl_publish.specs.Codes.{code_of as roll_code_of}
-use Rattle.xl_sched.specs.declared.refusal.SchedRefusal.{SchedRefusal}
-use Rattle.xl_sched.specs.Refusals.{code_of, token_of}
-use Rattle.xl_sched.specs.Tokens.{shown_token}
 
 abbrev pub space : List ℕ
 space = codes " "
 
 abbrev pub newline : List ℕ
 newline = 10 ∷ []
-
--- a refused line
-abbrev pub bad_line : ℕ → SchedRefusal → List ℕ
-bad_line n refusal =
-    codes "bad " ++ decimal n ++ space ++ decimal (code_of refusal) ++ space ++ shown_token (token_of refusal)
-    ++ newline
 
 -- the values of why a roll is refused, parted by spaces; tags are 64 lower-case digits
 abbrev pub values_text : RollRefusal → List ℕ

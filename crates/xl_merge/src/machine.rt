@@ -1,17 +1,16 @@
 // The machine of `xl merge`.
-ghost use Rattle.std.specs.Prelude.{◌≡◌, ◌≤◌, ◌<◌, ◌+◌, [], IfOk, OnOk, string_bytes, decimal};
+ghost use Rattle.std.specs.Prelude.{◌≡◌, ◌≤◌, ◌<◌, ◌+◌, [], IfOk, OnOk, string_bytes};
 ghost use Rattle.xl_base.specs.Moments.{greatest_millis};
 ghost use Rattle.xl_sched.specs.Limits.{most_lines};
-ghost use Rattle.xl_merge.specs.Merging.{beyond};
 
 use crate::line::Line;
 use crate::reading::{header, later_line};
-use crate::texts::{push_bad, push_list, push_roll};
+use crate::texts::{push_list, push_roll};
 use std::alloc::Global;
-use xl_base::{Bytes, Millis, OutOfMemory, secs_of};
+use xl_base::{Millis, OutOfMemory, secs_of};
 use xl_lines::{Machine, Next, Overrun, Verdict};
 use xl_publish::Publishers;
-use xl_sched::{Cause, LineFault, MOST_BYTES, MOST_LINES, SchedRefusal, Tokens};
+use xl_sched::{Cause, LineFault, MOST_BYTES, MOST_LINES, SchedRefusal, Tokens, beyond, push_bad};
 
 /// The moment in force before a line says another.
 const FIRST_MOMENT: Millis = 1_000;
@@ -153,20 +152,4 @@ impl Machine for Merger {
         }
         Ok(Verdict::Good)
     }
-}
-
-/// The refusal of a line beyond a limit.
-fn beyond(alloc: Global, overrun: Overrun) -> Result<SchedRefusal, OutOfMemory>
-    ensures { IfOk result (λ refusal. refusal ≡ beyond overrun) }
-{
-    match overrun {
-        Overrun::LongLine => Ok(SchedRefusal::LongLine(decimal(alloc, MOST_BYTES as u64)?)),
-        Overrun::ManyLines => Ok(SchedRefusal::Limit(decimal(alloc, u64::from(MOST_LINES))?)),
-    }
-}
-
-fn decimal(alloc: Global, number: u64) -> Result<Bytes, OutOfMemory>
-    ensures { IfOk result (λ bytes. bytes ≡ decimal number) }
-{
-    Ok(Bytes::from_vec(number.to_string(alloc)?.into_bytes()))
 }

@@ -2,7 +2,7 @@
 ghost use Rattle.std.specs.Prelude.{◌≡◌, ◌++◌, decimal, Some, None, Ok, OnOk};
 ghost use Rattle.std.specs.String.{string_bytes};
 ghost use Rattle.hex.specs.Hex.{encode_lower};
-ghost use Rattle.xl_merge.specs.Texts.{bad_line, values_text, roll_text, members_text, later_members, list_text};
+ghost use Rattle.xl_merge.specs.Texts.{values_text, roll_text, members_text, later_members, list_text};
 ghost use Rattle.xl_publish.specs.declared.publishers.Took.TheVariants.{Kept};
 
 use std::alloc::Global;
@@ -10,18 +10,6 @@ use std::fmt::Write;
 use xl_base::{NodeNo, OutOfMemory};
 use xl_lists::List;
 use xl_publish::{RollRefusal, Took};
-use xl_sched::{SchedRefusal, printed_token};
-
-/// The line that says why a line is refused.
-pub fn push_bad(text: &mut String, line: u64, refusal: &SchedRefusal) -> Result<(), OutOfMemory>
-    ensures { OnOk result (string_bytes text.new ≡ string_bytes text.old ++ bad_line line refusal.now) }
-{
-    let code = refusal.code();
-    write!(text, "bad {line} {code} ")?;
-    printed_token(refusal.token(), text)?;
-    text.push('\n')?;
-    Ok(())
-}
 
 /// What is written of a roll that a line hands in.
 pub fn push_roll(
