@@ -52,3 +52,4 @@ pub mod Keyed
 pub mod Rising
 pub mod Lives
 pub mod Seated
+pub mod Seating

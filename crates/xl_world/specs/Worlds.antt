@@ -17,6 +17,7 @@ use Rattle.xl_world.specs.Ends.{IsLeft}
 use Rattle.xl_world.specs.Indexes.{IsIndex, Traffic}
 use Rattle.xl_world.specs.Rested.{IsAtRest}
 use Rattle.xl_world.specs.Sending.{Sent, address_in, with_address, body_said, said_to, sent_as}
+use Rattle.xl_world.specs.Stands.{AreSeats}
 use Rattle.xl_world.specs.Starts.{IsRun}
 use Rattle.xl_world.specs.World.{World}
 
@@ -98,5 +99,6 @@ IsKept false w = IsRun w × IsAtRest w
 IsKept true w = IsLeft (record w { spent = true })
 
 -- what the type keeps
-abbrev pub IsWhole : Inside → Type 0
-IsWhole w = IsKept w.spent w.network
+pub record IsWhole (w : Inside) : Type 0 where
+  pub kept : IsKept w.spent w.network
+  pub seats : w.spent ≡ false → AreSeats w.seats w.network.places

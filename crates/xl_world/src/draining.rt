@@ -24,7 +24,7 @@ use crate::act::Seat;
 use crate::lie::put_blank;
 use crate::members::Members;
 use crate::place::{NodeCore, Place};
-use crate::said::Said;
+use crate::said::NOTHING_SAID;
 use crate::traffic::Traffic;
 use xl_base::{NodeNo, OutOfMemory};
 use xl_wire::{AROUND, Body, LONGEST_FRAME};
@@ -118,12 +118,12 @@ fn send_body(
     ensures spelled { IsTrue (has_spelling from to body.entry) }
     ensures err { OnErr result (traffic.new ≡ traffic.old) }
 {
-    match &Said::of(&body) {
-        Some(said) => traffic.push_said(from, to, said),
-        None => {
-            let length = put_blank(from, to, body, &mut *room);
-            traffic.push(from, to, &room[..length])
-        }
+    let mut said = NOTHING_SAID;
+    if said.keep(&body) {
+        traffic.push_said(from, to, &said)
+    } else {
+        let length = put_blank(from, to, body, &mut *room);
+        traffic.push(from, to, &room[..length])
     }
 }
 

@@ -43,6 +43,7 @@ mod place;
 mod plan;
 mod said;
 mod saving;
+mod seat_table;
 mod sent;
 mod settle;
 mod traffic;

@@ -11,6 +11,7 @@ use crate::draining::drain_at;
 use crate::extent::Extent;
 use crate::members::Members;
 use crate::place::{Fate, NodeCore, Place};
+use crate::seat_table::Seats;
 use crate::settle::{note_list, note_report, push_some, tell, tell_heard_at};
 use crate::traffic::Traffic;
 use crate::{InForce, Outcome, Plan, WorldReport, open};
@@ -62,7 +63,7 @@ impl Network {
     ghost use Rattle.xl_world.specs.Ends.{Grows, cut_back, extent_of};
     ghost use Rattle.xl_world.specs.Rested.{IsAtRest, IsRested};
     ghost use Rattle.xl_world.specs.Schedule.{IsPlausible, outcomes_at, steps_at, told_in};
-    ghost use Rattle.xl_world.specs.Stands.{IsSeat};
+    ghost use Rattle.xl_world.specs.Stands.{AreSeats, IsSeat};
     ghost use Rattle.xl_world.specs.Seen.{MayDo, deed_event, after_note, outcomes_told, with_forged};
 
     /// The network of a plan, at its start.
@@ -152,10 +153,12 @@ impl Network {
         &mut self,
         at: Millis,
         what: &What,
+        seats: &Seats,
         answer: &mut NodeAnswer,
         told: &mut Vec<Outcome>,
     ) -> Result<(), OutOfMemory>
         requires moment { at ≤ greatest_millis }
+        requires seats { AreSeats seats.now self.old.places }
         requires rest { IsAtRest self.old }
         requires plausible { IsPlausible what.now }
         ensures world { OnOk result (self.new ≡ run self.old (steps_at self.old at what.now)) }
@@ -174,10 +177,10 @@ impl Network {
                 self.greet(*node, *peer, &deed, answer, told)
             }
             What::Deliver { place } => match place.checked_sub(1) {
-                Some(before) => self.deliver(at, before as usize, answer, told),
+                Some(before) => self.deliver(at, before as usize, seats, answer, told),
                 None => Ok(()),
             },
-            What::All => self.deliver_all(at, answer, told),
+            What::All => self.deliver_all(at, seats, answer, told),
             What::Drop => {
                 self.traffic.move_mark();
                 Ok(())
@@ -198,6 +201,13 @@ impl Network {
         ensures { option_copied result ≡ core_in self.now node }
     {
         core_at(&self.places, node)
+    }
+
+    /// Where its nodes stand.
+    pub fn seats(&self) -> Result<Seats, OutOfMemory>
+        ensures { IfOk result (λ seats. AreSeats seats self.now.places) }
+    {
+        Seats::of(self.alloc, &self.places)
     }
 
     /// A place for what is told, in which nothing is yet.

@@ -16,31 +16,47 @@ pub enum Said {
     Tx(TxId),
 }
 
+/// What stands where it is kept what a frame says, before it is.
+pub const NOTHING_SAID: Said = Said::Tx(TxId([0; 32]));
+
 impl Said {
     /// What a body says, unless it is a set.
-    // Each answer is written where it is to be: it is large, and one that is joined of several is moved there.
     pub fn of(body: &Body<'_>) -> Option<Said>
         ensures value { IfSome result (λ said. body_said said ≡ body.now) }
         ensures fits { IfSome result (λ said. IsBody (body_said said)) }
     {
+        let mut said = NOTHING_SAID;
+        if said.keep(body) { Some(said) } else { None }
+    }
+
+    /// Keeps what a body says, unless it is a set. Answers whether it did.
+    // What is kept is large, and an answer would be copied on its way.
+    pub fn keep(&mut self, body: &Body<'_>) -> bool
+        ensures value { IsTrue result → body_said self.new ≡ body.now }
+        ensures fits { IsTrue result → IsBody (body_said self.new) }
+    {
         match body {
             Body::Proposal(proposal) => {
                 proposal_fits(proposal);
-                return Some(Said::Proposal(*proposal));
+                *self = Said::Proposal(*proposal);
+                true
             }
             Body::Validation(validation) => {
                 validation_fits(validation);
-                return Some(Said::Validation(*validation));
+                *self = Said::Validation(*validation);
+                true
             }
             Body::Header(header) => {
                 header_fits(header);
-                return Some(Said::Header(*header));
+                *self = Said::Header(*header);
+                true
             }
             Body::Tx(tx) => {
                 id_fits(&tx.0);
-                return Some(Said::Tx(*tx));
+                *self = Said::Tx(*tx);
+                true
             }
-            Body::TxSet(_) => return None,
+            Body::TxSet(_) => false,
         }
     }
 
@@ -60,7 +76,7 @@ impl Said {
         self.as_body()
     }
 
-    // As in `of`.
+    // Each answer is written where it is to be: it is large, and one that is joined of several is moved there.
     fn as_body(&self) -> Body<'_>
         ensures { result ≡ body_said self.now }
     {

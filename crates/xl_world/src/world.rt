@@ -4,6 +4,7 @@ use crate::act::{NodeAnswer, list_at};
 use crate::agreement::all_agree;
 use crate::network::Network;
 use crate::place::NodeCore;
+use crate::seat_table::Seats;
 use crate::{Happened, InForce, Plan, SentFrames, WorldReport};
 use std::alloc::Global;
 use std::marker::Model;
@@ -18,6 +19,8 @@ use xl_sched::Event;
 #[derive(Drop)]
 pub struct World {
     network: Network,
+    /// Where its nodes stand, while it isn't spent.
+    seats: Seats,
     /// What came of the last thing that happened at a node: an answer is large, so it has one place.
     answer: NodeAnswer,
     spent: bool,
@@ -58,8 +61,11 @@ impl World {
         ensures { IfOk result (λ world. world
             ≡ start (record { limit = plan.now.limit; speak = plan.now.speak }) plan.now.liars.items plan.now.nodes.items) }
     {
+        let network = Network::open(alloc, plan)?;
+        let seats = network.seats()?;
         Ok(World {
-            network: Network::open(alloc, plan)?,
+            network,
+            seats,
             answer: NodeAnswer::nothing(),
             spent: false,
         })
@@ -82,10 +88,13 @@ impl World {
         }
         let before = self.network.extent();
         let mut told = self.network.nothing_told();
-        match self
-            .network
-            .happen(event.at, &event.what, &mut self.answer, &mut told)
-        {
+        match self.network.happen(
+            event.at,
+            &event.what,
+            &self.seats,
+            &mut self.answer,
+            &mut told,
+        ) {
             Ok(()) => Ok(Happened::from_vec(told)),
             Err(fault) => {
                 self.network.end(&before);

@@ -10,6 +10,7 @@ ghost use Rattle.xl_world.specs.Ends.{Grows};
 ghost use Rattle.xl_world.specs.Rested.{IsAtRest};
 ghost use Rattle.xl_world.specs.Schedule.{delivery_of, hand_steps, lied_bytes, outcomes_at, steps_at, told_in};
 ghost use Rattle.xl_world.specs.Seen.{MayDo, deed_event};
+ghost use Rattle.xl_world.specs.Stands.{AreSeats};
 ghost use Rattle.xl_world.specs.World.{run};
 
 use super::Network;
@@ -18,6 +19,7 @@ use crate::act::{NodeAnswer, Seat, position_of};
 use crate::forged::{is_forged, is_liar};
 use crate::lie::put_lie;
 use crate::place::Fate;
+use crate::seat_table::Seats;
 use xl_base::{Millis, NodeNo, OutOfMemory};
 use xl_core::Deed;
 use xl_sched::{Lied, What};
@@ -30,10 +32,12 @@ impl Network {
         &mut self,
         at: Millis,
         place: usize,
+        seats: &Seats,
         answer: &mut NodeAnswer,
         told: &mut Vec<Outcome>,
     ) -> Result<(), OutOfMemory>
         requires moment { at ≤ greatest_millis }
+        requires seats { AreSeats seats.now self.old.places }
         requires rest { IsAtRest self.old }
         ensures world { OnOk result
             (self.new ≡ run self.old (delivery_of self.old at (slice_get self.old.sent place))) }
@@ -45,7 +49,7 @@ impl Network {
             return Ok(());
         };
         let to = frame.to();
-        let Some(k) = position_of(&self.places, to) else {
+        let Some(k) = seats.seat_of(&self.places, to) else {
             return Ok(());
         };
         let receiver = &mut self.places[k];
@@ -61,17 +65,19 @@ impl Network {
     pub(super) fn deliver_all(
         &mut self,
         at: Millis,
+        seats: &Seats,
         answer: &mut NodeAnswer,
         told: &mut Vec<Outcome>,
     ) -> Result<(), OutOfMemory>
         requires moment { at ≤ greatest_millis }
+        requires seats { AreSeats seats.now self.old.places }
         requires rest { IsAtRest self.old }
         ensures world { OnOk result (self.new ≡ run self.old (steps_at self.old at What.All)) }
         ensures told { OnOk result (told.new.items ≡ told.old.items ++ outcomes_at self.old at What.All) }
         ensures grows { Grows self.old self.new }
     {
         for place in self.traffic.mark()..self.traffic.sent().len() {
-            self.deliver(at, place, answer, told)?;
+            self.deliver(at, place, seats, answer, told)?;
         }
         self.traffic.move_mark();
         Ok(())

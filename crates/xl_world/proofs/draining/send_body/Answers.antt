@@ -1,25 +1,21 @@
-use Rattle.std.proofs.Common.{◌≡◌, ◌∷◌, ℕ, List, [], Option, Some, arith, subst}
-use Rattle.std.specs.Prelude.{IfSome, OnOk}
+use Rattle.std.proofs.Common.{◌≡◌, ◌∷◌, ℕ, List, [], arith, subst}
+use Rattle.std.specs.Prelude.{OnOk}
 use Rattle.xl_wire.specs.declared.body.Body.{Body}
 use Rattle.xl_wire.specs.Bodies.{IsBody}
 use Rattle.xl_world.specs.Indexes.{with_frames}
-use Rattle.xl_world.specs.declared.said.Said.{Said}
-use Rattle.xl_world.specs.Sending.{Sent, body_said, said_to}
+use Rattle.xl_world.specs.Sending.{Sent, said_to}
 use Rattle.xl_world.proofs.Carrying.{spelled_between}
 use Rattle.xl_world.proofs.draining.send_body.Goals as goal
 
--- what is kept says the body
-value_in : (body : Body) (o : Option Said) (said : Said) → o ≡ Some said → IfSome o (λ s. body_said s ≡ body) → body_said said ≡ body
-value_in body o said is value = subst (λ (o : Option Said). IfSome o (λ s. body_said s ≡ body)) is value
+pub returns-then-keep-clause-sent : goal.returns-then-keep-clause-sent
+returns-then-keep-clause-sent c =
+    subst (λ (b : Body). OnOk c.push_said.result (c.push_said.new.self ≡ with_frames c.args.traffic.now (said_to c.args.from c.args.to b ∷ []))) (c.keep.ensures.value c.if-keep.true) c.push_said.ensures.sent
 
-pub returns-in-Some-clause-sent : goal.returns-in-Some-clause-sent
-returns-in-Some-clause-sent c =
-    subst (λ (b : Body). OnOk c.push_said.result (c.push_said.new.self ≡ with_frames c.args.traffic.now (said_to c.args.from c.args.to b ∷ []))) (value_in c.args.body c.of.result c.in-Some.said c.in-Some.is c.of.ensures.value) c.push_said.ensures.sent
+pub returns-then-keep-clause-spelled : goal.returns-then-keep-clause-spelled
+returns-then-keep-clause-spelled c =
+    spelled_between c.args.from c.args.to c.args.body (omega arith, omega arith) (omega arith, omega arith) (subst IsBody (c.keep.ensures.value c.if-keep.true) (c.keep.ensures.fits c.if-keep.true))
 
-pub returns-in-Some-clause-spelled : goal.returns-in-Some-clause-spelled
-returns-in-Some-clause-spelled c = spelled_between c.args.from c.args.to c.args.body (omega arith, omega arith) (omega arith, omega arith) (subst IsBody (value_in c.args.body c.of.result c.in-Some.said c.in-Some.is c.of.ensures.value) (subst (λ (o : Option Said). IfSome o (λ s. IsBody (body_said s))) c.in-Some.is c.of.ensures.fits))
-
-pub returns-in-None-clause-sent : goal.returns-in-None-clause-sent
-returns-in-None-clause-sent c =
+pub returns-else-keep-clause-sent : goal.returns-else-keep-clause-sent
+returns-else-keep-clause-sent c =
     subst (λ (bs : List ℕ). OnOk c.push.result (c.push.new.self ≡ with_frames c.args.traffic.now ((let f : Sent = record { from = c.args.from; to = c.args.to; bytes = bs } in f) ∷ [])))
     c.put_blank-length.ensures.heard c.push.ensures.sent

@@ -26,31 +26,31 @@ event c = Frame c.args.at c.in-Some.frame.bytes
 
 -- the places after it
 abbrev after : After-hears_sent → List Place
-after c = set c.self.inside.places.items c.in-Some-position_of.k c.hears_sent.new.self
+after c = set c.self.inside.places.items c.in-Some-seat_of.k c.hears_sent.new.self
 
 -- the frame is the sent one
 sent : (c : After-hears_sent) → slice_get c.args.self.now.sent c.args.place ≡ Some c.in-Some.frame
 sent c = ap (λ (w : World). slice_get w.sent c.args.place) (sym c.self.view_is) ∙ sym c.in-Some.ensures
 
-found : (c : After-hears_sent) → IsFound c.args.self.now (network_seen c.self.inside) c.to-to.result c.in-Some-position_of.k c.index_mut-receiver.result.now
-found c = found_in c.args.self.now (network_seen c.self.inside) c.to-to.result c.in-Some-position_of.k c.index_mut-receiver.result.now c.deref.result.now c.self.view_is c.in-Some-position_of.ensures c.deref.ensures.value c.index_mut-receiver.ensures.value
+found : (c : After-hears_sent) → IsFound c.args.self.now (network_seen c.self.inside) c.to-to.result c.in-Some-seat_of.k c.index_mut-receiver.result.now
+found c = found_in c.args.self.now (network_seen c.self.inside) c.to-to.result c.in-Some-seat_of.k c.index_mut-receiver.result.now c.deref.result.now c.self.view_is c.in-Some-seat_of.ensures c.deref.ensures.value c.index_mut-receiver.ensures.value
 
 acted : (c : After-hears_sent) → IsActed c.args.self.now c.to-to.result (event c) Saved (after c) c.hears_sent.new.answer
-acted c = found_acted c.args.self.now (network_seen c.self.inside) c.to-to.result c.in-Some-position_of.k c.index_mut-receiver.result.now (λ m. event c) Saved c.hears_sent.new.self c.hears_sent.new.answer (found c) c.hears_sent.ensures.place c.hears_sent.ensures.answer
+acted c = found_acted c.args.self.now (network_seen c.self.inside) c.to-to.result c.in-Some-seat_of.k c.index_mut-receiver.result.now (λ m. event c) Saved c.hears_sent.new.self c.hears_sent.new.answer (found c) c.hears_sent.ensures.place c.hears_sent.ensures.answer
 
 pub hears_sent-requires-clause-rested : goal.hears_sent-requires-clause-rested
 hears_sent-requires-clause-rested c =
-    c.requires.rest.cores c.to-to.result _ (found_place c.args.self.now (network_seen c.self.inside) c.to-to.result c.in-Some-position_of.k c.index_mut-receiver.result.now (found_in c.args.self.now (network_seen c.self.inside) c.to-to.result c.in-Some-position_of.k c.index_mut-receiver.result.now c.deref.result.now c.self.view_is c.in-Some-position_of.ensures c.deref.ensures.value c.index_mut-receiver.ensures.value))
+    c.requires.rest.cores c.to-to.result _ (found_place c.args.self.now (network_seen c.self.inside) c.to-to.result c.in-Some-seat_of.k c.index_mut-receiver.result.now (found_in c.args.self.now (network_seen c.self.inside) c.to-to.result c.in-Some-seat_of.k c.index_mut-receiver.result.now c.deref.result.now c.self.view_is c.in-Some-seat_of.ensures c.deref.ensures.value c.index_mut-receiver.ensures.value))
 
 pub hears_sent-requires-clause-mine : goal.hears_sent-requires-clause-mine
 hears_sent-requires-clause-mine c =
     sym c.to-to.ensures
-    ∙ sym (found_number c.args.self.now (network_seen c.self.inside) c.to-to.result c.in-Some-position_of.k c.index_mut-receiver.result.now (found_in c.args.self.now (network_seen c.self.inside) c.to-to.result c.in-Some-position_of.k c.index_mut-receiver.result.now c.deref.result.now c.self.view_is c.in-Some-position_of.ensures c.deref.ensures.value c.index_mut-receiver.ensures.value))
+    ∙ sym (found_number c.args.self.now (network_seen c.self.inside) c.to-to.result c.in-Some-seat_of.k c.index_mut-receiver.result.now (found_in c.args.self.now (network_seen c.self.inside) c.to-to.result c.in-Some-seat_of.k c.index_mut-receiver.result.now c.deref.result.now c.self.view_is c.in-Some-seat_of.ensures c.deref.ensures.value c.index_mut-receiver.ensures.value))
 
 pub settle-requires : goal.settle-requires
 settle-requires c =
     let d = (goal.at.settle-requires c).After-hears_sent in record {
-      seat = found_seat c.args.self.now (network_seen c.self.inside) c.to-to.result d.in-Some-position_of.k d.index_mut-receiver.result.now (λ m. event d) Saved d.hears_sent.new.self (found d) d.hears_sent.ensures.place;
+      seat = found_seat c.args.self.now (network_seen c.self.inside) c.to-to.result d.in-Some-seat_of.k d.index_mut-receiver.result.now (λ m. event d) Saved d.hears_sent.new.self (found d) d.hears_sent.ensures.place;
       rested = acted_rest c.args.self.now c.to-to.result (event d) Saved (after d) c.hears_sent.new.answer (acted d) c.requires.rest;
     }
 
@@ -83,8 +83,8 @@ returns-clause-grows c =
     grows_from c.args.self.now (network_seen c.self.inside) c.settle.new.self (after d) c.self.view_is c.settle.ensures.grows
 
 -- nobody has its receiver's number
-pub returns-in_default-position_of-clause-world : goal.returns-in_default-position_of-clause-world
-returns-in_default-position_of-clause-world c =
+pub returns-in_default-seat_of-clause-world : goal.returns-in_default-seat_of-clause-world
+returns-in_default-seat_of-clause-world c =
     let w : World = c.args.self.now in
     let f : Sent = c.in-Some.frame in
     let is_sent : slice_get w.sent c.args.place ≡ Some f = ap (λ (w : World). slice_get w.sent c.args.place) (sym c.self.view_is) ∙ sym c.in-Some.ensures in
@@ -93,8 +93,8 @@ returns-in_default-position_of-clause-world c =
     ap (λ (m : ℕ). place_at m w.places) (sym c.to-to.ensures) ∙ absent w (network_seen c.self.inside) c.to-to.result c.deref.result.now c.self.view_is none c.deref.ensures.value in
     absent_stays w f.to (Frame c.args.at f.bytes) Saved nobody ∙ ap (λ (o : Option Sent). run w (delivery_of w c.args.at o)) (sym is_sent)
 
-pub returns-in_default-position_of-clause-told : goal.returns-in_default-position_of-clause-told
-returns-in_default-position_of-clause-told c =
+pub returns-in_default-seat_of-clause-told : goal.returns-in_default-seat_of-clause-told
+returns-in_default-seat_of-clause-told c =
     let w : World = c.args.self.now in
     let f : Sent = c.in-Some.frame in
     let told : List Outcome = c.args.told.now.items in
@@ -107,5 +107,5 @@ returns-in_default-position_of-clause-told c =
 
 pub index_mut-receiver-requires : goal.index_mut-receiver-requires
 index_mut-receiver-requires c =
-    let within = found_within c.deref.result.now c.to-to.result c.in-Some-position_of.k (sym c.in-Some-position_of.ensures) in
+    let within = found_within c.deref.result.now c.to-to.result c.in-Some-seat_of.k (sym c.in-Some-seat_of.ensures) in
     omega (arith, within, ap length c.deref.ensures.value, c.self.inside.places.ok.0)

@@ -1,9 +1,12 @@
 use Rattle.std.proofs.Common.{◌∙◌, List, ℕ, ap, arith, length, refl, subst, sym}
+use Rattle.std.specs.Prelude.{slice_get}
+use Rattle.xl_world.specs.Schedule.{delivery_of}
 use Rattle.xl_world.specs.Sending.{Sent}
 use Rattle.xl_world.specs.World.{World, marked_world}
 use Rattle.xl_world.specs.Worlds.{network_seen}
 use Rattle.xl_world.proofs.Going.{IsDelivered, delivered_all, delivered_first, delivered_more}
 use Rattle.xl_world.proofs.Growing.{grows_on, grows_same, grows_so, longer_same}
+use Rattle.xl_world.proofs.Seating.{seats_on}
 use Rattle.xl_world.proofs.network.Network.deliver_all.Goals as goal
 
 pub loop-place-init : goal.loop-place-init
@@ -12,6 +15,7 @@ loop-place-init c =
       subst (λ (k : ℕ). IsDelivered c.args.self.now c.args.at told k c.args.self.now told) (sym (c.mark-place.ensures.value ∙ ap (λ (w : World). w.mark) c.self.view_is))
           (delivered_first c.args.self.now c.args.at told c.requires.rest),
       grows_same c.args.self.now c.args.self.now refl,
+      c.requires.seats,
     )
 
 pub loop-place-preserved : goal.loop-place-preserved
@@ -20,6 +24,7 @@ loop-place-preserved c = (
       (omega (arith, c.loop-place-test.true, c.len-place-end.ensures, ap length c.sent.ensures, ap (λ (w : World). length w.sent) c.self.view_is))
       c.loop-place.invariant.0 c.in_ok-deliver.ensures.world c.in_ok-deliver.ensures.told,
   grows_on c.args.self.now c.loop-place.self c.deliver.new.self c.loop-place.invariant.1 c.deliver.ensures.grows,
+  seats_on c.args.seats.now c.loop-place.self c.deliver.new.self (delivery_of c.loop-place.self c.args.at (slice_get c.loop-place.self.sent c.loop-place.place)) c.in_ok-deliver.ensures.world c.loop-place.invariant.2,
 )
 
 pub returns-clause-world : goal.returns-clause-world

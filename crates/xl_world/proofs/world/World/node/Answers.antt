@@ -12,7 +12,7 @@ pub returns-clause-spent : goal.returns-clause-spent
 returns-clause-spent c = λ h.
     c.core_of.ensures
     ∙ (ap (λ (w : World). core_in w c.args.node) c.self.view_is
-    ∙ ap (λ (w : World). core_in w c.args.node) (kept_left c.self.inside.spent c.self.inside.network c.args.self.now c.self.view_is c.self.invariant h).2)
+    ∙ ap (λ (w : World). core_in w c.args.node) (kept_left c.self.inside.spent c.self.inside.network c.args.self.now c.self.view_is c.self.invariant.kept h).2)
 
 pub returns-clause-none : goal.returns-clause-none
 returns-clause-none c = λ shared liars plan steps is.
@@ -22,4 +22,4 @@ returns-clause-none c = λ shared liars plan steps is.
 
 pub returns-clause-keys : goal.returns-clause-keys
 returns-clause-keys c = λ core is.
-    keyed c.self.inside.spent c.self.inside.network c.self.invariant c.args.node core (ap (λ (w : World). core_in w c.args.node) c.self.view_is ∙ is)
+    keyed c.self.inside.spent c.self.inside.network c.self.invariant.kept c.args.node core (ap (λ (w : World). core_in w c.args.node) c.self.view_is ∙ is)
