@@ -1,6 +1,6 @@
 -- A node that hears something of a member within a second holds nothing else that it didn't hold before.
 use Rattle.std.proofs.Common.{◌≡◌, ◌≢◌, ℕ, Bool, true, false, List, [], ◌∷◌, ◌++◌, length, refl, sym, ap, ◌∙◌, subst, inl, inr, arith, cond, Option, Some, None}
-use Rattle.std.specs.Prelude.{◌==◌, ◌&&◌, ◌||◌, ◌≤◌, All, find, map, nat_eq}
+use Rattle.std.specs.Prelude.{◌==◌, ◌&&◌, ◌||◌, ◌≤◌, ◌+◌, ◌-◌, ◌⊎◌, All, find, if◌then◌else◌, map, nat_eq, nat_lt}
 use Rattle.std.specs.List.{AllByRecursion, IsDistinct, flat_map, list_any}
 use Rattle.std.specs.Cmp.Lexicographic.{pointwise}
 use Rattle.std.specs.Option.{option_and_then}
@@ -8,30 +8,37 @@ use Rattle.std.specs.Str.{bytes_eq}
 use Rattle.std.proofs.lemmas.Bool.{cases_eq, cond_both, cond-true, cond-false, eq-eqb, eqb-true}
 use Rattle.std.proofs.lemmas.Bool.Decides.{nat_tests}
 use Rattle.std.proofs.lemmas.List.{append-nil}
+use Rattle.std.proofs.Common.{append_assoc}
+use Rattle.xl_world.specs.Plans.{up_from}
 use Rattle.std.proofs.lemmas.List.Elements.{All-cons, All-head, All-nil, All-tail}
 use Rattle.std.proofs.lemmas.Slice.Eq.{bytes_eq-Decides}
 use Rattle.xl_base.specs.declared.ids.LedgerId.{LedgerId}
 use Rattle.xl_base.specs.declared.ids.TxId.{TxId}
 use Rattle.xl_lists.specs.Lists.{IsValid, TrustedList, is_on}
 use Rattle.xl_lists.proofs.Rising.{on_in_range}
-use Rattle.xl_core.specs.Node.{Node}
+use Rattle.xl_core.specs.declared.last.LastReport.{LastReport}
+use Rattle.xl_core.specs.declared.report.Report.{Report}
+use Rattle.xl_core.specs.Node.{Node, preferred}
+use Rattle.xl_ledger.specs.Registries.{Ledgers}
 use Rattle.xl_noted.specs.declared.members.NotedMember.{NotedMember}
-use Rattle.xl_noted.specs.Hearing.{LeavesOthers}
-use Rattle.xl_noted.specs.Noted.{Noted, hearing_noted, member_noted, noted, noted_of, position_before, round_noted, row_before}
-use Rattle.xl_noted.specs.Same.{are_same_ids, is_same_bool, is_same_id, is_same_list, is_same_mode, is_same_number, is_same_phase, is_same_position, is_same_proposal, is_same_row, is_same_validation}
+use Rattle.xl_noted.specs.Hearing.{LeavesOthers, ledgers_noted, pending_noted, position_noted, vote_noted}
+use Rattle.xl_noted.specs.Noted.{Noted, member_noted, noted, noted_of, position_before, round_noted, row_before}
+use Rattle.xl_noted.specs.Same.{are_same_ids, is_same_bool, is_same_id, is_same_last, is_same_list, is_same_mode, is_same_number, is_same_phase, is_same_position, is_same_proposal, is_same_report, is_same_row, is_same_validation}
 use Rattle.xl_rounds.specs.declared.phase.Mode.{Mode}
 use Rattle.xl_rounds.specs.declared.phase.Mode.TheVariants.{Proposing, Observing, SwitchedLedger}
 use Rattle.xl_rounds.specs.declared.phase.Phase.{Phase}
 use Rattle.xl_rounds.specs.declared.phase.Phase.TheVariants.{Open, Establish, Accepted}
 use Rattle.xl_rounds.specs.declared.setting.Setting.{Setting}
-use Rattle.xl_rounds.specs.Positions.{position_of}
+use Rattle.xl_rounds.specs.Positions.{count, count_agreeing, position_of}
 use Rattle.xl_rounds.specs.Rounds.{Round, our_position}
 use Rattle.xl_sched.specs.declared.named.Named.{Named}
+use Rattle.xl_validations.specs.declared.row.Row.{Row}
 use Rattle.xl_validations.specs.Rows.{current_of}
 use Rattle.xl_wire.specs.declared.proposal.Proposal.{Proposal}
 use Rattle.xl_wire.specs.declared.validation.Validation.{Validation}
-use Rattle.xl_held.specs.Changes.{agreement_changed, agreement_heard, changed_lines, heard_lines, is_same_round, ledgers_changed, proposal_changed, proposal_heard, proposals_changed, reports_changed, reports_heard, round_changed, row_changed, row_heard, rows_changed, settings_changed, unless}
-use Rattle.xl_held.specs.Lines.{issuing_line, kept_line, list_line, pending_line, position_line, proposal_line, round_line, row_line, set_line, time_line}
+use Rattle.xl_held.specs.Changes.{agreement_changed, changed_lines, is_same_round, ledgers_changed, proposal_changed, proposals_changed, reports_changed, round_changed, row_changed, rows_changed, settings_changed, unless}
+use Rattle.xl_held.specs.Hearing.{header_heard, proposal_heard, set_heard, tx_heard, vote_heard}
+use Rattle.xl_held.specs.Lines.{agreement_line, issuing_line, kept_line, known_line, ledger_line, ledger_lines, list_line, pending_line, position_line, prefers_line, proposal_line, report_line, round_line, row_line, set_line, time_line}
 
 -- WHAT IS THE SAME AS ITSELF
 
@@ -90,6 +97,50 @@ list_itself list = both (list.quorum == list.quorum) (pointwise (λ (x y : ℕ).
 ids_themselves : (ids : List TxId) → are_same_ids ids ids ≡ true
 ids_themselves [] = refl
 ids_themselves (id ∷ ids) = both (bytes_eq id.0 id.0) (are_same_ids ids ids) (bytes_itself id.0) (ids_themselves ids)
+
+report_itself : (o : Option Report) → is_same_report o o ≡ true
+report_itself None = refl
+report_itself (Some r) = both (r.seq == r.seq) (bytes_eq r.id.0 r.id.0) (number_itself r.seq) (bytes_itself r.id.0)
+
+last_itself : (last : LastReport) → is_same_last last last ≡ true
+last_itself last = both (is_same_bool last.relisted last.relisted) (is_same_report last.report last.report) (bool_itself last.relisted) (report_itself last.report)
+
+-- ids that are one more are others
+not_both : (a b : Bool) → b ≡ false → (a && b) ≡ false
+not_both true b is = is
+not_both false b is = refl
+
+one_more_differs : (ids others : List TxId) → length others ≡ length ids + 1 → are_same_ids ids others ≡ false
+one_more_differs [] [] more = absurd (omega (arith, more))
+one_more_differs [] (id ∷ others) more = refl
+one_more_differs (id ∷ ids) [] more = absurd (omega (arith, more))
+one_more_differs (id ∷ ids) (other ∷ others) more = not_both (bytes_eq id.0 other.0) (are_same_ids ids others) (one_more_differs ids others (omega (arith, more)))
+
+-- so of ids that came one by one it is enough to count them
+counted : (ids others : List TxId) → (others ≡ ids) ⊎ (length others ≡ length ids + 1) → (length ids == length others) ≡ are_same_ids ids others
+counted ids others came = elim came [
+  | inl same ↦ ap (λ (xs : List TxId). length ids == length xs) same ∙ (number_itself (length ids) ∙ (sym (ids_themselves ids) ∙ ap (are_same_ids ids) (sym same)))
+  | inr more ↦ differs (length ids) (length others) more ∙ sym (one_more_differs ids others more)
+]
+  where
+    differs : (a b : ℕ) → b ≡ a + 1 → (a == b) ≡ false
+    differs a b more = grind (arith, nat_tests, more)
+
+-- of no more ledgers none is told
+none_came : (names : List Named) (i known : ℕ) (n : Node) → length n.ledgers.headers ≡ known → ledgers_changed names i known n ≡ []
+unfolding up_from
+none_came names i known n is =
+    let less : nat_lt (length n.ledgers.headers) known ≡ false = not_less (length n.ledgers.headers) known is in
+    let none : length n.ledgers.headers - known ≡ 0 = omega (arith, is) in
+    ap (λ (b : Bool). (if b then known_line i (length n.ledgers.headers) else []) ++ ledger_lines names i n.ledgers.headers known) less
+    ∙ ap (λ (k : ℕ). flat_map (λ place. ledger_line names i n.ledgers.headers place) (up_from known k)) none
+  where
+    not_less : (a b : ℕ) → a ≡ b → nat_lt a b ≡ false
+    not_less a b same = grind (arith, nat_tests, same)
+
+-- nothing behind it
+drop_end : (xs ys : List ℕ) → ys ≡ [] → xs ++ ys ≡ xs
+drop_end xs ys none = ap (λ (zs : List ℕ). xs ++ zs) none ∙ append-nil xs
 
 -- so nothing is told of it
 unless_same : (b : Bool) (line : List ℕ) → b ≡ true → unless b line ≡ []
@@ -202,7 +253,10 @@ module _ (names : List Named) (i m : ℕ) (n later : Node) (leaves : LeavesOther
       (ap (λ (o : Option Validation). is_same_row o (current_of later.rows k)) (row_of_noted n k n.list.members there)
       ∙ (ap (is_same_row (current_of n.rows k)) (leaves.rows k other) ∙ row_itself (current_of n.rows k)))
 
-  rows : rows_changed names i before later ≡ row_heard names i (member_noted n m) later
+  abbrev its_row : List ℕ
+  its_row = unless (is_same_row (current_of n.rows m) (current_of later.rows m)) (row_line names i m (current_of later.rows m))
+
+  rows : rows_changed names i before later ≡ its_row
   rows =
       ap (λ (ms : List ℕ). flat_map (row_changed names i before later) ms) (ap (λ (l : TrustedList). l.members) leaves.list)
       ∙ (one_left (row_changed names i before later) m n.list.members valid.once row_none on
@@ -214,7 +268,10 @@ module _ (names : List Named) (i m : ℕ) (n later : Node) (leaves : LeavesOther
       (ap (λ (o : Option Proposal). is_same_position o (position_of later.round.positions k)) (position_of_noted n k n.list.members there)
       ∙ (ap (is_same_position (position_of n.round.positions k)) (leaves.positions k (on_in_range n.list.members valid.numbers k there).0 other) ∙ position_itself (position_of n.round.positions k)))
 
-  proposals : proposals_changed names i before later ≡ proposal_heard names i (member_noted n m) later
+  abbrev its_proposal : List ℕ
+  its_proposal = unless (is_same_position (position_of n.round.positions m) (position_of later.round.positions m)) (proposal_line names i m (position_of later.round.positions m))
+
+  proposals : proposals_changed names i before later ≡ its_proposal
   proposals =
       ap (λ (ms : List ℕ). flat_map (proposal_changed names i before later) ms) (ap (λ (l : TrustedList). l.members) leaves.list)
       ∙ (one_left (proposal_changed names i before later) m n.list.members valid.once proposal_none on
@@ -236,19 +293,130 @@ module _ (names : List Named) (i m : ℕ) (n later : Node) (leaves : LeavesOther
       ∙ (ap (λ (xs : List ℕ). xs ++ unless (are_same_ids n.round.positions.own later.round.positions.own) (set_line names i later.round.positions.own) ++ pending) position
       ∙ ap (λ (xs : List ℕ). xs ++ pending) own)
 
-  -- only what a hearing may change is told
-  pub heard_is_changed : heard_lines names i (hearing_noted n m) later ≡ changed_lines names i (noted n) later
-  heard_is_changed =
-      let time : List ℕ = unless (n.time == later.time) (time_line i later.time) in
-      let row : List ℕ = row_heard names i (member_noted n m) later in
-      let ledgers : List ℕ = ledgers_changed names i (length n.ledgers.headers) later in
-      let reports : List ℕ = reports_heard names i (hearing_noted n m) later in
-      let pending : List ℕ = unless (are_same_ids n.round.pending later.round.pending) (pending_line names i later.round.pending) in
-      let proposal : List ℕ = proposal_heard names i (member_noted n m) later in
-      let agreement : List ℕ = agreement_heard i (hearing_noted n m) later.round in
+  abbrev its_time : List ℕ
+  its_time = unless (n.time == later.time) (time_line i later.time)
+
+  abbrev its_ledgers : List ℕ
+  its_ledgers = ledgers_changed names i (length n.ledgers.headers) later
+
+  abbrev its_report : List ℕ
+  its_report = unless (is_same_last n.last later.last) (report_line names i later.last)
+
+  abbrev its_preference : List ℕ
+  its_preference = unless (is_same_report (preferred n) (preferred later)) (prefers_line names i (preferred later))
+
+  abbrev its_pending : List ℕ
+  its_pending = unless (are_same_ids n.round.pending later.round.pending) (pending_line names i later.round.pending)
+
+  abbrev its_agreement : List ℕ
+  its_agreement = unless (count_agreeing n.round.positions == count_agreeing later.round.positions && count n.round.positions == count later.round.positions) (agreement_line i later.round)
+
+  -- what a hearing may change
+  heard : changed_lines names i (noted n) later ≡ its_time ++ its_row ++ its_ledgers ++ (its_report ++ its_preference) ++ its_pending ++ its_proposal ++ its_agreement
+  heard =
+      let reports : List ℕ = its_report ++ its_preference in
+      ap (λ (xs : List ℕ). xs ++ rows_changed names i before later ++ its_ledgers ++ reports ++ round_changed names i (round_noted n.round) later.round ++ proposals_changed names i before later ++ its_agreement) settings
+      ∙ (ap (λ (xs : List ℕ). its_time ++ xs ++ its_ledgers ++ reports ++ round_changed names i (round_noted n.round) later.round ++ proposals_changed names i before later ++ its_agreement) rows
+      ∙ (ap (λ (xs : List ℕ). its_time ++ its_row ++ its_ledgers ++ reports ++ xs ++ proposals_changed names i before later ++ its_agreement) its_round
+      ∙ ap (λ (xs : List ℕ). its_time ++ its_row ++ its_ledgers ++ reports ++ its_pending ++ xs ++ its_agreement) proposals))
+
+  -- WHAT STAYS
+
+  no_row : later.rows ≡ n.rows → its_row ≡ []
+  no_row same =
+      unless_same (is_same_row (current_of n.rows m) (current_of later.rows m)) (row_line names i m (current_of later.rows m))
+      (ap (λ (rs : List Row). is_same_row (current_of n.rows m) (current_of rs m)) same ∙ row_itself (current_of n.rows m))
+
+  no_ledgers : later.ledgers ≡ n.ledgers → its_ledgers ≡ []
+  no_ledgers same = none_came names i (length n.ledgers.headers) later (ap (λ (ls : Ledgers). length ls.headers) same)
+
+  no_report : later.last ≡ n.last → its_report ≡ []
+  no_report same = unless_same (is_same_last n.last later.last) (report_line names i later.last) (ap (is_same_last n.last) same ∙ last_itself n.last)
+
+  no_preference : later.ledgers ≡ n.ledgers → later.rows ≡ n.rows → its_preference ≡ []
+  no_preference ledgers rows =
+      let same : preferred later ≡ preferred n =
+      ap (λ (ls : Ledgers). preferred (record n { ledgers = ls; rows = later.rows; kept = later.kept })) ledgers
+      ∙ (ap (λ (rs : List Row). preferred (record n { rows = rs; kept = later.kept })) rows ∙ ap (λ (k : ℕ). preferred (record n { kept = k })) leaves.kept) in
+      unless_same (is_same_report (preferred n) (preferred later)) (prefers_line names i (preferred later)) (ap (is_same_report (preferred n)) same ∙ report_itself (preferred n))
+
+  no_pending : later.round.pending ≡ n.round.pending → its_pending ≡ []
+  no_pending same =
+      unless_same (are_same_ids n.round.pending later.round.pending) (pending_line names i later.round.pending) (ap (are_same_ids n.round.pending) same ∙ ids_themselves n.round.pending)
+
+  no_proposal : later.round.positions.members ≡ n.round.positions.members → its_proposal ≡ []
+  no_proposal same =
+      unless_same (is_same_position (position_of n.round.positions m) (position_of later.round.positions m)) (proposal_line names i m (position_of later.round.positions m))
+      (ap (λ (ms : List (Option Proposal)). is_same_position (position_of n.round.positions m) (position_of (record n.round.positions { members = ms }) m)) same ∙ position_itself (position_of n.round.positions m))
+
+  no_agreement : later.round.positions.members ≡ n.round.positions.members → its_agreement ≡ []
+  no_agreement same =
+      let agreeing : count_agreeing later.round.positions ≡ count_agreeing n.round.positions =
+      ap (λ (ms : List (Option Proposal)). count_agreeing (record n.round.positions { members = ms; own = later.round.positions.own })) same
+      ∙ ap (λ (own : List TxId). count_agreeing (record n.round.positions { own = own })) leaves.own in
+      let all : count later.round.positions ≡ count n.round.positions = ap (λ (ms : List (Option Proposal)). count (record n.round.positions { members = ms })) same in
+      unless_same (count_agreeing n.round.positions == count_agreeing later.round.positions && count n.round.positions == count later.round.positions) (agreement_line i later.round)
+      (both (count_agreeing n.round.positions == count_agreeing later.round.positions) (count n.round.positions == count later.round.positions)
+      (ap (λ (k : ℕ). count_agreeing n.round.positions == k) agreeing ∙ number_itself (count_agreeing n.round.positions)) (ap (λ (k : ℕ). count n.round.positions == k) all ∙ number_itself (count n.round.positions)))
+
+  -- WHAT IS TOLD OF EACH KIND
+
+  pub vote_told : later.ledgers ≡ n.ledgers → later.round ≡ n.round → vote_heard names i (vote_noted n m) later ≡ changed_lines names i (noted n) later
+  vote_told ledgers round =
+      let front : List ℕ = its_time ++ its_row in
+      let reports : List ℕ = its_report ++ its_preference in
+      let members : later.round.positions.members ≡ n.round.positions.members = ap (λ (r : Round). r.positions.members) round in
       sym (
-      ap (λ (xs : List ℕ). xs ++ rows_changed names i before later ++ ledgers ++ reports ++ round_changed names i (round_noted n.round) later.round ++ proposals_changed names i before later ++ agreement) settings
-      ∙ (ap (λ (xs : List ℕ). time ++ xs ++ ledgers ++ reports ++ round_changed names i (round_noted n.round) later.round ++ proposals_changed names i before later ++ agreement) rows
-      ∙ (ap (λ (xs : List ℕ). time ++ row ++ ledgers ++ reports ++ xs ++ proposals_changed names i before later ++ agreement) its_round
-      ∙ ap (λ (xs : List ℕ). time ++ row ++ ledgers ++ reports ++ pending ++ xs ++ agreement) proposals))
+      heard
+      ∙ (drop_end (front ++ its_ledgers ++ reports ++ its_pending ++ its_proposal) its_agreement (no_agreement members)
+      ∙ (drop_end (front ++ its_ledgers ++ reports ++ its_pending) its_proposal (no_proposal members)
+      ∙ (drop_end (front ++ its_ledgers ++ reports) its_pending (no_pending (ap (λ (r : Round). r.pending) round))
+      ∙ (ap (λ (xs : List ℕ). xs ++ reports) (drop_end front its_ledgers (no_ledgers ledgers))
+      ∙ sym (append_assoc front its_report its_preference)))))
+      )
+
+  only_time : later.ledgers ≡ n.ledgers → later.rows ≡ n.rows → later.last ≡ n.last → its_time ++ its_row ++ its_ledgers ++ (its_report ++ its_preference) ≡ its_time
+  only_time ledgers rows last =
+      ap (λ (xs : List ℕ). xs ++ its_ledgers ++ (its_report ++ its_preference)) (drop_end its_time its_row (no_row rows))
+      ∙ (ap (λ (xs : List ℕ). xs ++ (its_report ++ its_preference)) (drop_end its_time its_ledgers (no_ledgers ledgers))
+      ∙ drop_end its_time (its_report ++ its_preference) (ap (λ (xs : List ℕ). xs ++ its_preference) (no_report last) ∙ no_preference ledgers rows))
+
+  pub proposal_told : later.ledgers ≡ n.ledgers → later.rows ≡ n.rows → later.last ≡ n.last → later.round.pending ≡ n.round.pending → proposal_heard names i (position_noted n m) later ≡ changed_lines names i (noted n) later
+  proposal_told ledgers rows last pending =
+      sym (
+      heard
+      ∙ (ap (λ (xs : List ℕ). xs ++ its_pending ++ its_proposal ++ its_agreement) (only_time ledgers rows last)
+      ∙ ap (λ (xs : List ℕ). xs ++ its_proposal ++ its_agreement) (drop_end its_time its_pending (no_pending pending)))
+      )
+
+  -- without what is held of the members' positions
+  no_positions : later.round.positions.members ≡ n.round.positions.members → (xs : List ℕ) → xs ++ its_proposal ++ its_agreement ≡ xs
+  no_positions members xs = drop_end (xs ++ its_proposal) its_agreement (no_agreement members) ∙ drop_end xs its_proposal (no_proposal members)
+
+  pub header_told : later.rows ≡ n.rows → later.last ≡ n.last → later.round ≡ n.round → header_heard names i (ledgers_noted n) later ≡ changed_lines names i (noted n) later
+  header_told rows last round =
+      let reports : List ℕ = its_report ++ its_preference in
+      sym (
+      heard
+      ∙ (no_positions (ap (λ (r : Round). r.positions.members) round) (its_time ++ its_row ++ its_ledgers ++ reports ++ its_pending)
+      ∙ (drop_end (its_time ++ its_row ++ its_ledgers ++ reports) its_pending (no_pending (ap (λ (r : Round). r.pending) round))
+      ∙ (ap (λ (xs : List ℕ). xs ++ its_ledgers ++ reports) (drop_end its_time its_row (no_row rows))
+      ∙ ap (λ (xs : List ℕ). its_time ++ its_ledgers ++ (xs ++ its_preference)) (no_report last))))
+      )
+
+  pub set_told : later.ledgers ≡ n.ledgers → later.rows ≡ n.rows → later.last ≡ n.last → later.round.pending ≡ n.round.pending → later.round.positions.members ≡ n.round.positions.members → set_heard i n.time later ≡ changed_lines names i (noted n) later
+  set_told ledgers rows last pending members =
+      sym (
+      heard
+      ∙ (no_positions members (its_time ++ its_row ++ its_ledgers ++ (its_report ++ its_preference) ++ its_pending)
+      ∙ (ap (λ (xs : List ℕ). xs ++ its_pending) (only_time ledgers rows last) ∙ drop_end its_time its_pending (no_pending pending)))
+      )
+
+  pub tx_told : later.ledgers ≡ n.ledgers → later.rows ≡ n.rows → later.last ≡ n.last → later.round.positions.members ≡ n.round.positions.members → (later.round.pending ≡ n.round.pending) ⊎ (length later.round.pending ≡ length n.round.pending + 1) → tx_heard names i (pending_noted n) later ≡ changed_lines names i (noted n) later
+  tx_told ledgers rows last members came =
+      ap (λ (b : Bool). its_time ++ unless b (pending_line names i later.round.pending)) (counted n.round.pending later.round.pending came)
+      ∙ sym (
+      heard
+      ∙ (no_positions members (its_time ++ its_row ++ its_ledgers ++ (its_report ++ its_preference) ++ its_pending)
+      ∙ ap (λ (xs : List ℕ). xs ++ its_pending) (only_time ledgers rows last))
       )

@@ -3,7 +3,7 @@ use Rattle.std.specs.Prelude.{ℕ, ◌==◌, ◌&&◌, Bool, nat_lt, List, [], �
 use Rattle.std.specs.List.{flat_map}
 use Rattle.xl_core.specs.Node.{Node, preferred}
 use Rattle.xl_noted.specs.declared.members.NotedMember.{NotedMember}
-use Rattle.xl_noted.specs.Noted.{Noted, NotedHearing, NotedRound, position_before, row_before}
+use Rattle.xl_noted.specs.Noted.{Noted, NotedRound, position_before, row_before}
 use Rattle.xl_noted.specs.Same.{are_same_ids, is_same_last, is_same_list, is_same_mode, is_same_number, is_same_phase, is_same_position, is_same_proposal, is_same_report, is_same_row}
 use Rattle.xl_rounds.specs.Positions.{count_agreeing, count, position_of}
 use Rattle.xl_rounds.specs.Rounds.{Round, our_position}
@@ -74,34 +74,6 @@ changed_lines names i b n =
     settings_changed i b n ++ rows_changed names i b.members n ++ ledgers_changed names i b.ledgers n
     ++ reports_changed names i b n ++ round_changed names i b.round n.round
     ++ proposals_changed names i b.members n ++ agreement_changed i b.round n.round
-
--- the row of the member that alone was noted
-abbrev pub row_heard : List Named → ℕ → NotedMember → Node → List ℕ
-row_heard names i b n =
-    unless (is_same_row b.row (current_of n.rows b.member)) (row_line names i b.member (current_of n.rows b.member))
-
-abbrev pub proposal_heard : List Named → ℕ → NotedMember → Node → List ℕ
-proposal_heard names i b n =
-    unless (is_same_position b.position (position_of n.round.positions b.member))
-    (proposal_line names i b.member (position_of n.round.positions b.member))
-
--- its last report, and what it prefers
-abbrev pub reports_heard : List Named → ℕ → NotedHearing → Node → List ℕ
-reports_heard names i b n =
-    unless (is_same_last b.last n.last) (report_line names i n.last)
-    ++ unless (is_same_report b.preferred (preferred n)) (prefers_line names i (preferred n))
-
-abbrev pub agreement_heard : ℕ → NotedHearing → Round → List ℕ
-agreement_heard i b r =
-    unless (b.agreeing == count_agreeing r.positions && b.proposers == count r.positions) (agreement_line i r)
-
--- of a node that has heard something of a member within a second: what it holds and didn't hold before
-abbrev pub heard_lines : List Named → ℕ → NotedHearing → Node → List ℕ
-heard_lines names i b n =
-    unless (b.time == n.time) (time_line i n.time)
-    ++ row_heard names i b.member n ++ ledgers_changed names i b.ledgers n ++ reports_heard names i b n
-    ++ unless (are_same_ids b.pending n.round.pending) (pending_line names i n.round.pending)
-    ++ proposal_heard names i b.member n ++ agreement_heard i b n.round
 
 -- of a node that was just opened: its time, kept number, issuing and list
 abbrev pub settings_opened : ℕ → Node → List ℕ

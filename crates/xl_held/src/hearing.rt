@@ -1,20 +1,24 @@
 // What a node holds that has heard something of a member.
-ghost use Rattle.std.specs.Prelude.{◌≡◌, ◌==◌, ◌&&◌, ◌++◌, OnOk};
+ghost use Rattle.std.specs.Prelude.{◌≡◌, ◌==◌, ◌&&◌, ◌++◌, length, OnOk};
 ghost use Rattle.std.specs.String.{string_bytes};
-ghost use Rattle.xl_held.specs.Changes.{agreement_heard, heard_lines, proposal_heard, reports_heard, row_heard};
+ghost use Rattle.xl_held.specs.Changes.{unless};
+ghost use Rattle.xl_held.specs.Hearing.{header_heard, proposal_heard, set_heard, tx_heard, vote_heard};
+ghost use Rattle.xl_held.specs.Lines.{agreement_line, pending_line, proposal_line, row_line};
 ghost use Rattle.xl_noted.specs.Same.{is_same_position as is_same_position_by, is_same_row as is_same_row_by};
-ghost use Rattle.xl_noted.specs.Seen.{hearing_seen};
-ghost use Rattle.xl_rounds.specs.Positions.{count_agreeing, count};
+ghost use Rattle.xl_rounds.specs.Positions.{count_agreeing, count, position_of};
+ghost use Rattle.xl_validations.specs.Rows.{current_of};
 
 use crate::ledgers::push_new_ledgers;
 use crate::members::{push_proposal_line, push_row_line};
 use crate::reports::{push_new_preference, push_new_report};
-use crate::rounds::{push_agreement_line, push_new_pending};
+use crate::rounds::{push_agreement_line, push_pending_line};
 use crate::settings::push_new_time;
 use std::alloc::Global;
-use xl_base::{NodeNo, OutOfMemory};
+use xl_base::{Millis, NodeNo, OutOfMemory, TxId};
 use xl_core::Node;
-use xl_noted::{NotedHearing, NotedMember, is_same_position, is_same_row};
+use xl_noted::{
+    NotedLedgers, NotedPending, NotedPosition, NotedVote, is_same_position, is_same_row,
+};
 use xl_rounds::Round;
 use xl_sched::Reader;
 use xl_trie::Trie;
@@ -25,11 +29,12 @@ fn push_heard_row(
     text: &mut String,
     reader: &Reader,
     number: NodeNo,
-    before: &NotedMember,
+    before: &NotedVote,
     node: &Node<Trie>,
 ) -> Result<(), OutOfMemory>
-    ensures { OnOk result (string_bytes text.new
-        ≡ string_bytes text.old ++ row_heard reader.now.names number before.now node.now) }
+    ensures { OnOk result (string_bytes text.new ≡ string_bytes text.old
+        ++ unless (is_same_row_by before.now.row (current_of node.now.rows before.now.member))
+        (row_line reader.now.names number before.now.member (current_of node.now.rows before.now.member))) }
 {
     let row = node.current(before.member);
     if is_same_row(&before.row, &row) {
@@ -39,36 +44,81 @@ fn push_heard_row(
 }
 
 /// The member's position, if it is new.
-fn push_heard_proposal(
+fn push_heard_position(
     alloc: Global,
     text: &mut String,
     reader: &Reader,
     number: NodeNo,
-    before: &NotedMember,
-    node: &Node<Trie>,
+    before: &NotedPosition,
+    round: &Round,
 ) -> Result<(), OutOfMemory>
-    ensures { OnOk result (string_bytes text.new
-        ≡ string_bytes text.old ++ proposal_heard reader.now.names number before.now node.now) }
+    ensures { OnOk result (string_bytes text.new ≡ string_bytes text.old
+        ++ unless (is_same_position_by before.now.position (position_of round.now.positions before.now.member))
+        (proposal_line reader.now.names number before.now.member (position_of round.now.positions before.now.member))) }
 {
-    let position = node.round().position_of(before.member);
+    let position = round.position_of(before.member);
     if is_same_position(&before.position, &position) {
         return Ok(());
     }
     push_proposal_line(alloc, text, reader, number, before.member, &position)
 }
 
-/// Its last report and what it prefers, each if it is new.
-fn push_heard_reports(
+fn has_same_agreement(before: &NotedPosition, round: &Round) -> bool
+    ensures { result
+        ≡ (before.now.agreeing == count_agreeing round.now.positions && before.now.proposers == count round.now.positions) }
+{
+    before.agreeing == round.agreeing() && before.proposers == round.proposers()
+}
+
+/// How many of the members' positions name its set, if that is new.
+fn push_heard_agreement(
+    text: &mut String,
+    number: NodeNo,
+    before: &NotedPosition,
+    round: &Round,
+) -> Result<(), OutOfMemory>
+    ensures { OnOk result (string_bytes text.new ≡ string_bytes text.old
+        ++ unless (before.now.agreeing == count_agreeing round.now.positions && before.now.proposers == count round.now.positions)
+        (agreement_line number round.now)) }
+{
+    if has_same_agreement(before, round) {
+        return Ok(());
+    }
+    push_agreement_line(text, number, round)
+}
+
+/// The transactions that are pending, if they aren't as many as before.
+fn push_more_pending(
     alloc: Global,
     text: &mut String,
     reader: &Reader,
     number: NodeNo,
-    before: &NotedHearing,
+    before: usize,
+    ids: &[TxId],
+) -> Result<(), OutOfMemory>
+    ensures { OnOk result (string_bytes text.new ≡ string_bytes text.old
+        ++ unless (before == length ids.now) (pending_line reader.now.names number ids.now)) }
+{
+    if before == ids.len() {
+        return Ok(());
+    }
+    push_pending_line(alloc, text, reader, number, ids)
+}
+
+/// What a node of this number holds that it didn't hold before it heard a validation.
+pub fn push_vote_heard(
+    alloc: Global,
+    text: &mut String,
+    reader: &Reader,
+    number: NodeNo,
+    before: &NotedVote,
     node: &Node<Trie>,
 ) -> Result<(), OutOfMemory>
     ensures { OnOk result (string_bytes text.new
-        ≡ string_bytes text.old ++ reports_heard reader.now.names number (hearing_seen before.now) node.now) }
+        ≡ string_bytes text.old ++ vote_heard reader.now.names number before.now node.now) }
 {
+    push_new_time(text, number, before.time, node.time())?;
+    push_heard_row(alloc, text, reader, number, before, node)?;
     push_new_report(alloc, text, reader, number, &before.last, node.last())?;
     push_new_preference(
         alloc,
@@ -80,48 +130,78 @@ fn push_heard_reports(
     )
 }
 
-fn has_same_agreement(before: &NotedHearing, round: &Round) -> bool
-    ensures { result
-        ≡ (before.now.agreeing == count_agreeing round.now.positions && before.now.proposers == count round.now.positions) }
-{
-    before.agreeing == round.agreeing() && before.proposers == round.proposers()
-}
-
-/// How many of the members' positions name its set, if that is new.
-fn push_heard_agreement(
-    text: &mut String,
-    number: NodeNo,
-    before: &NotedHearing,
-    round: &Round,
-) -> Result<(), OutOfMemory>
-    ensures { OnOk result (string_bytes text.new
-        ≡ string_bytes text.old ++ agreement_heard number (hearing_seen before.now) round.now) }
-{
-    if has_same_agreement(before, round) {
-        return Ok(());
-    }
-    push_agreement_line(text, number, round)
-}
-
-/// What a node of this number holds that it didn't hold when it was noted, and before it heard something of a member.
-pub fn push_heard(
+/// The same before it heard a proposal.
+pub fn push_proposal_heard(
     alloc: Global,
     text: &mut String,
     reader: &Reader,
     number: NodeNo,
-    before: &NotedHearing,
+    before: &NotedPosition,
     node: &Node<Trie>,
 ) -> Result<(), OutOfMemory>
     ensures { OnOk result (string_bytes text.new
-        ≡ string_bytes text.old ++ heard_lines reader.now.names number (hearing_seen before.now) node.now) }
+        ≡ string_bytes text.old ++ proposal_heard reader.now.names number before.now node.now) }
 {
-    let round = node.round();
-    let pending = before.pending.as_slice();
     push_new_time(text, number, before.time, node.time())?;
-    push_heard_row(alloc, text, reader, number, &before.member, node)?;
+    push_heard_position(alloc, text, reader, number, before, node.round())?;
+    push_heard_agreement(text, number, before, node.round())
+}
+
+/// The same before it heard a header.
+pub fn push_header_heard(
+    alloc: Global,
+    text: &mut String,
+    reader: &Reader,
+    number: NodeNo,
+    before: &NotedLedgers,
+    node: &Node<Trie>,
+) -> Result<(), OutOfMemory>
+    ensures { OnOk result (string_bytes text.new
+        ≡ string_bytes text.old ++ header_heard reader.now.names number before.now node.now) }
+{
+    push_new_time(text, number, before.time, node.time())?;
     push_new_ledgers(alloc, text, reader, number, before.ledgers, node)?;
-    push_heard_reports(alloc, text, reader, number, before, node)?;
-    push_new_pending(alloc, text, reader, number, pending, round.pending())?;
-    push_heard_proposal(alloc, text, reader, number, &before.member, node)?;
-    push_heard_agreement(text, number, before, round)
+    push_new_preference(
+        alloc,
+        text,
+        reader,
+        number,
+        &before.preferred,
+        &node.preferred(),
+    )
+}
+
+/// The same before it heard a transaction.
+pub fn push_tx_heard(
+    alloc: Global,
+    text: &mut String,
+    reader: &Reader,
+    number: NodeNo,
+    before: &NotedPending,
+    node: &Node<Trie>,
+) -> Result<(), OutOfMemory>
+    ensures { OnOk result (string_bytes text.new
+        ≡ string_bytes text.old ++ tx_heard reader.now.names number before.now node.now) }
+{
+    push_new_time(text, number, before.time, node.time())?;
+    push_more_pending(
+        alloc,
+        text,
+        reader,
+        number,
+        before.pending,
+        node.round().pending(),
+    )
+}
+
+/// The same before it heard a set, when this was its time.
+pub fn push_set_heard(
+    text: &mut String,
+    number: NodeNo,
+    before: Millis,
+    node: &Node<Trie>,
+) -> Result<(), OutOfMemory>
+    ensures { OnOk result (string_bytes text.new ≡ string_bytes text.old ++ set_heard number before node.now) }
+{
+    push_new_time(text, number, before, node.time())
 }

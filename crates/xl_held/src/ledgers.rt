@@ -4,13 +4,14 @@ ghost use Rattle.std.specs.String.{string_bytes};
 ghost use Rattle.xl_held.specs.Changes.{ledgers_changed};
 ghost use Rattle.xl_held.specs.Lines.{known_line, ledger_line, ledger_lines};
 
+use crate::words::{push_held, push_last_number};
 use std::alloc::Global;
-use std::fmt::Write;
 use xl_base::{NodeNo, OutOfMemory};
 use xl_core::Node;
 use xl_ledger::Registry;
 use xl_running::push_id;
 use xl_sched::Reader;
+use xl_told::{push_ledger as push_ledger_of, push_numbered, push_of};
 use xl_trie::Trie;
 
 /// The ledger of a place.
@@ -28,13 +29,11 @@ fn push_ledger(
 {
     let ledger = registry.ledger_at(place);
     let header = registry.walk().header(ledger);
-    let (number, seq, close) = (number.get(), header.seq, header.close);
-    write!(text, "held {number} ledger {seq} ")?;
-    push_id(alloc, text, reader, &registry.id_at(ledger))?;
+    push_held(text, number, " ledger ")?;
+    push_ledger_of(alloc, text, reader, header.seq, &registry.id_at(ledger))?;
     text.push(' ')?;
     push_id(alloc, text, reader, &header.parent)?;
-    writeln!(text, " {close}")?;
-    Ok(())
+    push_last_number(text, u64::from(header.close))
 }
 
 /// The ledgers from a place on.
@@ -69,8 +68,9 @@ fn push_fewer(
     if count >= known {
         return Ok(());
     }
-    let number = number.get();
-    writeln!(text, "held {number} known {count}")?;
+    push_of(text, "held ", number)?;
+    push_numbered(text, " known ", u64::from(count))?;
+    text.push('\n')?;
     Ok(())
 }
 

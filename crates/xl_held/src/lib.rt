@@ -14,4 +14,6 @@ mod settings;
 mod words;
 
 pub use changes::{push_changed, push_opened};
-pub use hearing::push_heard;
+pub use hearing::{
+    push_header_heard, push_proposal_heard, push_set_heard, push_tx_heard, push_vote_heard,
+};

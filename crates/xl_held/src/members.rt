@@ -6,11 +6,11 @@ ghost use Rattle.xl_held.specs.Lines.{proposal_line, row_line};
 
 use crate::words::{push_position, push_row};
 use std::alloc::Global;
-use std::fmt::Write;
 use xl_base::{NodeNo, OutOfMemory};
 use xl_core::Node;
 use xl_noted::{NotedMember, is_position_kept, is_row_kept};
 use xl_sched::Reader;
+use xl_told::push_of;
 use xl_trie::Trie;
 use xl_wire::{Proposal, Validation};
 
@@ -25,8 +25,9 @@ pub fn push_row_line(
     ensures { OnOk result (string_bytes text.new
         ≡ string_bytes text.old ++ row_line reader.now.names number member row.now) }
 {
-    let (one, other) = (number.get(), member.get());
-    write!(text, "held {one} row {other} ")?;
+    push_of(text, "held ", number)?;
+    push_of(text, " row ", member)?;
+    text.push(' ')?;
     push_row(alloc, text, reader, row)?;
     text.push('\n')?;
     Ok(())
@@ -80,8 +81,9 @@ pub fn push_proposal_line(
     ensures { OnOk result (string_bytes text.new
         ≡ string_bytes text.old ++ proposal_line reader.now.names number member position.now) }
 {
-    let (one, other) = (number.get(), member.get());
-    write!(text, "held {one} proposal {other} ")?;
+    push_of(text, "held ", number)?;
+    push_of(text, " proposal ", member)?;
+    text.push(' ')?;
     push_position(alloc, text, reader, position)?;
     text.push('\n')?;
     Ok(())

@@ -6,9 +6,8 @@ ghost use Rattle.xl_held.specs.Lines.{prefers_line, report_line};
 ghost use Rattle.xl_noted.specs.Same.{is_same_last, is_same_report};
 ghost use Rattle.xl_noted.specs.Seen.{noted_seen};
 
-use crate::words::{push_last, push_report};
+use crate::words::{push_held, push_last, push_report};
 use std::alloc::Global;
-use std::fmt::Write;
 use xl_base::{NodeNo, OutOfMemory};
 use xl_core::{LastReport, Node, Report};
 use xl_noted::{Noted, is_same_last as has_same_last, is_same_report as has_same_report};
@@ -25,8 +24,7 @@ fn push_report_line(
     ensures { OnOk result (string_bytes text.new
         ≡ string_bytes text.old ++ report_line reader.now.names number last.now) }
 {
-    let number = number.get();
-    write!(text, "held {number} report ")?;
+    push_held(text, number, " report ")?;
     push_last(alloc, text, reader, last)?;
     text.push('\n')?;
     Ok(())
@@ -42,8 +40,7 @@ fn push_prefers_line(
     ensures { OnOk result (string_bytes text.new
         ≡ string_bytes text.old ++ prefers_line reader.now.names number ledger.now) }
 {
-    let number = number.get();
-    write!(text, "held {number} prefers ")?;
+    push_held(text, number, " prefers ")?;
     push_report(alloc, text, reader, ledger)?;
     text.push('\n')?;
     Ok(())

@@ -7,9 +7,8 @@ ghost use Rattle.xl_noted.specs.Same.{are_same_ids, is_same_proposal};
 ghost use Rattle.xl_noted.specs.Seen.{round_seen};
 ghost use Rattle.xl_rounds.specs.Positions.{count_agreeing, count};
 
-use crate::words::{push_mode, push_phase};
+use crate::words::{push_held, push_last_number, push_mode, push_phase};
 use std::alloc::Global;
-use std::fmt::Write;
 use xl_base::{NodeNo, OutOfMemory, TxId};
 use xl_noted::{
     NotedRound, are_same_ids as have_same_ids, is_same_mode, is_same_phase,
@@ -17,19 +16,17 @@ use xl_noted::{
 };
 use xl_rounds::Round;
 use xl_sched::Reader;
-use xl_told::{push_ids, push_proposal};
+use xl_told::{push_ids, push_numbered, push_of, push_proposal};
 use xl_wire::Proposal;
 
 fn push_round_line(text: &mut String, number: NodeNo, round: &Round) -> Result<(), OutOfMemory>
     ensures { OnOk result (string_bytes text.new ≡ string_bytes text.old ++ round_line number round.now) }
 {
-    let (number, started) = (number.get(), round.started());
-    write!(text, "held {number} round ")?;
+    push_held(text, number, " round ")?;
     push_phase(text, round.phase())?;
     text.push(' ')?;
     push_mode(text, round.mode())?;
-    writeln!(text, " {started}")?;
-    Ok(())
+    push_last_number(text, round.started())
 }
 
 fn push_position_line(
@@ -42,8 +39,7 @@ fn push_position_line(
     ensures { OnOk result (string_bytes text.new
         ≡ string_bytes text.old ++ position_line reader.now.names number position.now) }
 {
-    let number = number.get();
-    write!(text, "held {number} position ")?;
+    push_held(text, number, " position ")?;
     push_proposal(alloc, text, reader, position)?;
     text.push('\n')?;
     Ok(())
@@ -59,14 +55,13 @@ fn push_set_line(
     ensures { OnOk result (string_bytes text.new
         ≡ string_bytes text.old ++ set_line reader.now.names number ids.now) }
 {
-    let number = number.get();
-    write!(text, "held {number} set ")?;
+    push_held(text, number, " set ")?;
     push_ids(alloc, text, reader, ids)?;
     text.push('\n')?;
     Ok(())
 }
 
-fn push_pending_line(
+pub fn push_pending_line(
     alloc: Global,
     text: &mut String,
     reader: &Reader,
@@ -76,8 +71,7 @@ fn push_pending_line(
     ensures { OnOk result (string_bytes text.new
         ≡ string_bytes text.old ++ pending_line reader.now.names number ids.now) }
 {
-    let number = number.get();
-    write!(text, "held {number} pending ")?;
+    push_held(text, number, " pending ")?;
     push_ids(alloc, text, reader, ids)?;
     text.push('\n')?;
     Ok(())
@@ -90,10 +84,9 @@ pub fn push_agreement_line(
 ) -> Result<(), OutOfMemory>
     ensures { OnOk result (string_bytes text.new ≡ string_bytes text.old ++ agreement_line number round.now) }
 {
-    let number = number.get();
-    let (agreeing, proposers) = (round.agreeing(), round.proposers());
-    writeln!(text, "held {number} agreement {agreeing} {proposers}")?;
-    Ok(())
+    push_of(text, "held ", number)?;
+    push_numbered(text, " agreement ", u64::from(round.agreeing()))?;
+    push_last_number(text, u64::from(round.proposers()))
 }
 
 fn has_same_round(before: &NotedRound, round: &Round) -> bool
@@ -153,8 +146,7 @@ fn push_new_set(
     push_set_line(alloc, text, reader, number, ids)
 }
 
-/// The transactions that are pending, if they are new.
-pub fn push_new_pending(
+fn push_new_pending(
     alloc: Global,
     text: &mut String,
     reader: &Reader,

@@ -6,28 +6,29 @@ ghost use Rattle.xl_held.specs.Lines.{issuing_line, kept_line, list_line, time_l
 ghost use Rattle.xl_noted.specs.Same.{is_same_list, is_same_number};
 ghost use Rattle.xl_noted.specs.Seen.{noted_seen};
 
-use crate::words::push_issuing;
-use std::fmt::Write;
+use crate::words::{push_held, push_issuing};
 use xl_base::{Millis, NodeNo, OutOfMemory, Seq};
 use xl_core::Node;
 use xl_lists::List;
 use xl_noted::{Noted, is_same_list as has_same_list, is_same_number as has_same_number};
-use xl_told::push_list;
+use xl_told::{push_list, push_numbered, push_of};
 use xl_trie::Trie;
 
 fn push_time(text: &mut String, node: NodeNo, time: Millis) -> Result<(), OutOfMemory>
     ensures { OnOk result (string_bytes text.new ≡ string_bytes text.old ++ time_line node time) }
 {
-    let number = node.get();
-    writeln!(text, "held {number} time {time}")?;
+    push_of(text, "held ", node)?;
+    push_numbered(text, " time ", time)?;
+    text.push('\n')?;
     Ok(())
 }
 
 fn push_kept(text: &mut String, node: NodeNo, kept: Seq) -> Result<(), OutOfMemory>
     ensures { OnOk result (string_bytes text.new ≡ string_bytes text.old ++ kept_line node kept) }
 {
-    let number = node.get();
-    writeln!(text, "held {number} kept {kept}")?;
+    push_of(text, "held ", node)?;
+    push_numbered(text, " kept ", u64::from(kept))?;
+    text.push('\n')?;
     Ok(())
 }
 
@@ -38,8 +39,7 @@ fn push_issuing_line(
 ) -> Result<(), OutOfMemory>
     ensures { OnOk result (string_bytes text.new ≡ string_bytes text.old ++ issuing_line node failed.now) }
 {
-    let number = node.get();
-    write!(text, "held {number} issuing ")?;
+    push_held(text, node, " issuing ")?;
     push_issuing(text, failed)?;
     text.push('\n')?;
     Ok(())
@@ -48,8 +48,7 @@ fn push_issuing_line(
 fn push_list_line(text: &mut String, node: NodeNo, list: &List) -> Result<(), OutOfMemory>
     ensures { OnOk result (string_bytes text.new ≡ string_bytes text.old ++ list_line node list.now) }
 {
-    let number = node.get();
-    write!(text, "held {number} list ")?;
+    push_held(text, node, " list ")?;
     push_list(text, list)?;
     text.push('\n')?;
     Ok(())

@@ -1,6 +1,7 @@
 // Words of what a node holds, added to a text.
-ghost use Rattle.std.specs.Prelude.{◌≡◌, ◌++◌, OnOk};
+ghost use Rattle.std.specs.Prelude.{◌≡◌, ◌++◌, codes, decimal, OnOk};
 ghost use Rattle.std.specs.String.{string_bytes};
+ghost use Rattle.xl_running.specs.Texts.{newline, space};
 ghost use Rattle.xl_held.specs.Words.{
   issuing_text,
   last_text,
@@ -13,20 +14,36 @@ ghost use Rattle.xl_held.specs.Words.{
 };
 
 use std::alloc::Global;
-use std::fmt::Write;
-use xl_base::{OutOfMemory, Seq};
+use xl_base::{NodeNo, OutOfMemory, Seq};
 use xl_core::{LastReport, Report};
 use xl_rounds::{Mode, Phase};
-use xl_running::push_id;
 use xl_sched::Reader;
-use xl_told::{push_proposal, push_validation};
+use xl_told::{push_ledger, push_numbered, push_of, push_proposal, push_validation};
 use xl_wire::{Proposal, Validation};
+
+/// The beginning of a line: of which node it tells, and a word.
+pub fn push_held(text: &mut String, node: NodeNo, word: &str) -> Result<(), OutOfMemory>
+    ensures { OnOk result (string_bytes text.new ≡ string_bytes text.old ++ codes "held " ++ decimal node ++ word.now) }
+{
+    push_of(text, "held ", node)?;
+    text.push_str(word)?;
+    Ok(())
+}
+
+/// The end of a line: a number.
+pub fn push_last_number(text: &mut String, number: u64) -> Result<(), OutOfMemory>
+    ensures { OnOk result (string_bytes text.new ≡ string_bytes text.old ++ space ++ decimal number ++ newline) }
+{
+    push_numbered(text, " ", number)?;
+    text.push('\n')?;
+    Ok(())
+}
 
 pub fn push_issuing(text: &mut String, failed: &Option<Seq>) -> Result<(), OutOfMemory>
     ensures { OnOk result (string_bytes text.new ≡ string_bytes text.old ++ issuing_text failed.now) }
 {
     match failed {
-        Some(seq) => Ok(write!(text, "off {seq}")?),
+        Some(seq) => push_numbered(text, "off ", u64::from(*seq)),
         None => Ok(text.push_str("on")?),
     }
 }
@@ -43,8 +60,7 @@ pub fn push_report(
     let Some(Report { seq, id }) = report else {
         return Ok(text.push_str("none")?);
     };
-    write!(text, "{seq} ")?;
-    push_id(alloc, text, reader, id)
+    push_ledger(alloc, text, reader, *seq, id)
 }
 
 fn push_relisted(text: &mut String, relisted: bool) -> Result<(), OutOfMemory>

@@ -1,10 +1,13 @@
 -- What a node hears of a member changes nothing that it holds of the others.
-use Rattle.std.proofs.Common.{◌≡◌, ◌≢◌, ℕ, ◌-◌, ◌≤◌, ◌/◌, true, false, List, [], ◌∷◌, refl, sym, ap, ◌∙◌, subst, arith, cond, Option, Some, None, Result, Ok, Err}
-use Rattle.std.specs.Prelude.{◌==◌, max, map}
+use Rattle.std.proofs.Common.{◌≡◌, ◌≢◌, ◌⊎◌, ℕ, suc, ◌+◌, ◌-◌, ◌≤◌, ◌/◌, true, false, inl, inr, length, List, [], ◌∷◌, refl, sym, ap, ◌∙◌, subst, arith, cond, Option, Some, None, Result, Ok, Err}
+use Rattle.std.specs.Prelude.{◌==◌, max, map, if◌then◌else◌}
 use Rattle.std.specs.Option.{is_none, option_and_then}
 use Rattle.std.proofs.lemmas.Bool.{cases_eq, cond_both, cond-false, eqb-true}
 use Rattle.std.proofs.lemmas.Bool.Decides.{nat_tests}
 use Rattle.std.proofs.lemmas.List.{get_or-set_other}
+use Rattle.xl_base.specs.declared.ids.TxId.{TxId}
+use Rattle.xl_base.specs.Sets.{is_below}
+use Rattle.xl_disputes.specs.Rising.{with_tx}
 use Rattle.xl_wire.specs.declared.proposal.Proposal.{Proposal}
 use Rattle.xl_wire.specs.declared.validation.Validation.{Validation}
 use Rattle.xl_wire.specs.Heads.{raw_in}
@@ -22,7 +25,7 @@ use Rattle.xl_core.specs.declared.refusal.Refusal.{Refusal}
 use Rattle.xl_core.specs.Hearing.{said_in}
 use Rattle.xl_core.specs.Node.{Node, at_moment, bytes_reply, frame_refusal, proposal_answer, reply_unless, second_of, take, taken_reply}
 use Rattle.xl_core.proofs.Current.{none_expire}
-use Rattle.xl_noted.specs.Hearing.{LeavesOthers}
+use Rattle.xl_noted.specs.Hearing.{LeavesOthers, LeavesRest}
 use Rattle.xl_noted.proofs.Currents.{AreCurrent}
 
 -- A ROW
@@ -111,9 +114,49 @@ heard_by : (m : ℕ) (n : Node) (what : Speech) (o : Option Refusal) → 1 ≤ m
 heard_by m n what None low = taken m n what low
 heard_by m n what (Some why) low = itself m n
 
+-- WHAT ELSE STAYS
+
+-- a transaction that comes is one more
+one_more : (tx : TxId) (ids : List TxId) → (with_tx tx ids ≡ ids) ⊎ (length (with_tx tx ids) ≡ length ids + 1)
+one_more tx [] = inr refl
+one_more tx (id ∷ ids) =
+    cond_both (is_below id tx) (id ∷ with_tx tx ids) (if is_below tx id then tx ∷ id ∷ ids else id ∷ ids) (λ (xs : List TxId). (xs ≡ id ∷ ids) ⊎ (length xs ≡ length (id ∷ ids) + 1))
+    (λ _. elim (one_more tx ids) [
+      | inl same ↦ inl (ap (λ (xs : List TxId). id ∷ xs) same)
+      | inr more ↦ inr (omega (arith, more))
+    ])
+    (λ _. cond_both (is_below tx id) (tx ∷ id ∷ ids) (id ∷ ids) (λ (xs : List TxId). (xs ≡ id ∷ ids) ⊎ (length xs ≡ length (id ∷ ids) + 1)) (λ _. inr (omega arith)) (λ _. inl refl))
+
+answered_rest : (m : ℕ) (p : Proposal) (n : Node) (place : Result Placed RoundRefusal) → LeavesRest (speech.Proposal p) n (record n { round = with_answer place m p n.round })
+answered_rest m p n (Ok placed.Position) = (refl, refl, refl, refl)
+answered_rest m p n (Ok placed.Later) = (refl, refl, refl, refl)
+answered_rest m p n (Ok placed.Gone) = (refl, refl, refl, refl)
+answered_rest m p n (Err why) = (refl, refl, refl, refl)
+
+itself_rest : (what : Speech) (n : Node) → LeavesRest what n n
+itself_rest (speech.Validation v) n = (refl, refl)
+itself_rest (speech.Header h) n = (refl, refl, refl)
+itself_rest (speech.Proposal p) n = (refl, refl, refl, refl)
+itself_rest (speech.TxSet ids) n = (refl, refl, refl, refl, refl)
+itself_rest (speech.Tx tx) n = (refl, refl, refl, refl, inl refl)
+
+taken_rest : (m : ℕ) (n : Node) (what : Speech) → LeavesRest what n (taken_reply n m what).node
+taken_rest m n (speech.Validation v) = (refl, refl)
+taken_rest m n (speech.Header h) = (refl, refl, refl)
+taken_rest m n (speech.Proposal p) = answered_rest m p n (proposal_answer n m p)
+taken_rest m n (speech.TxSet ids) = (refl, refl, refl, refl, refl)
+taken_rest m n (speech.Tx tx) = (refl, refl, refl, refl, one_more tx n.round.pending)
+
+heard_rest : (m : ℕ) (n : Node) (what : Speech) (o : Option Refusal) → LeavesRest what n (reply_unless n o (taken_reply n m what)).node
+heard_rest m n what None = taken_rest m n what
+heard_rest m n what (Some why) = itself_rest what n
+
 -- A MOMENT LATER
 
 -- within a second no row changes
+within : (at : ℕ) (n : Node) → AreCurrent n → max n.time at / 1000 ≡ n.time / 1000 → map (row_at (max n.time at / 1000)) n.rows ≡ n.rows
+within at n current same = ap (λ (s : ℕ). map (row_at s) n.rows) same ∙ none_expire (n.time / 1000) n.rows current
+
 at_second : (m at : ℕ) (n later : Node) → AreCurrent n → max n.time at / 1000 ≡ n.time / 1000 → LeavesOthers m (at_moment at n) later → LeavesOthers m n later
 at_second m at n later current same leaves = record {
   list = leaves.list;
@@ -123,12 +166,17 @@ at_second m at n later current same leaves = record {
   setting = leaves.setting;
   position = leaves.position;
   own = leaves.own;
-  rows = λ k other. leaves.rows k other ∙ ap (λ (rows : List Row). current_of rows k) still;
+  rows = λ k other. leaves.rows k other ∙ ap (λ (rows : List Row). current_of rows k) (within at n current same);
   positions = leaves.positions;
 }
-  where
-    still : map (row_at (max n.time at / 1000)) n.rows ≡ n.rows
-    still = ap (λ (s : ℕ). map (row_at s) n.rows) same ∙ none_expire (n.time / 1000) n.rows current
+
+-- so of what else it is
+rest_at_second : (at : ℕ) (n later : Node) (what : Speech) → map (row_at (max n.time at / 1000)) n.rows ≡ n.rows → LeavesRest what (at_moment at n) later → LeavesRest what n later
+rest_at_second at n later (speech.Validation v) still leaves = leaves
+rest_at_second at n later (speech.Header h) still leaves = (leaves.0 ∙ still, leaves.1, leaves.2)
+rest_at_second at n later (speech.Proposal p) still leaves = (leaves.0, leaves.1 ∙ still, leaves.2, leaves.3)
+rest_at_second at n later (speech.TxSet ids) still leaves = (leaves.0, leaves.1 ∙ still, leaves.2, leaves.3, leaves.4)
+rest_at_second at n later (speech.Tx tx) still leaves = (leaves.0, leaves.1 ∙ still, leaves.2, leaves.3, leaves.4)
 
 -- what a node hears within a second leaves what it holds of all but who says it
 pub hearing_leaves : (at : ℕ) (n : Node) (bytes : List ℕ) → AreCurrent n → max n.time at / 1000 ≡ n.time / 1000 → 1 ≤ (said_in (raw_in bytes)).from →
@@ -137,3 +185,11 @@ hearing_leaves at n bytes current same low =
     let m : ℕ = (said_in (raw_in bytes)).from in
     at_second m at n (bytes_reply (at_moment at n) bytes).node current same
     (heard_by m (at_moment at n) (said_in (raw_in bytes)).what (frame_refusal (at_moment at n) bytes) low)
+
+-- and of what else it is all but what that kind may change
+pub hearing_leaves_rest : (at : ℕ) (n : Node) (bytes : List ℕ) → AreCurrent n → max n.time at / 1000 ≡ n.time / 1000 →
+    LeavesRest (said_in (raw_in bytes)).what n (bytes_reply (at_moment at n) bytes).node
+hearing_leaves_rest at n bytes current same =
+    let said = said_in (raw_in bytes) in
+    rest_at_second at n (bytes_reply (at_moment at n) bytes).node said.what (within at n current same)
+    (heard_rest said.from (at_moment at n) said.what (frame_refusal (at_moment at n) bytes))

@@ -38,17 +38,6 @@ pub record Noted : Type 0 where
   pub preferred : Option Report
   pub round : NotedRound
 
--- what is noted of it before it hears something of a member within a second: of members that one alone
-pub record NotedHearing : Type 0 where
-  pub time : ℕ
-  pub member : NotedMember
-  pub ledgers : ℕ
-  pub last : LastReport
-  pub preferred : Option Report
-  pub pending : List TxId
-  pub proposers : ℕ
-  pub agreeing : ℕ
-
 abbrev pub member_noted : Node → ℕ → NotedMember
 member_noted n m = record {
   member = m;
@@ -79,18 +68,6 @@ noted n = record {
   last = n.last;
   preferred = preferred n;
   round = round_noted n.round;
-}
-
-abbrev pub hearing_noted : Node → ℕ → NotedHearing
-hearing_noted n m = record {
-  time = n.time;
-  member = member_noted n m;
-  ledgers = length n.ledgers.headers;
-  last = n.last;
-  preferred = preferred n;
-  pending = n.round.pending;
-  proposers = count n.round.positions;
-  agreeing = count_agreeing n.round.positions;
 }
 
 -- what was noted of a member, if it stood on the list

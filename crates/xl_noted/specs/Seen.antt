@@ -1,8 +1,7 @@
 -- What the code notes, as the definitions see it. Source: what the code of this crate keeps.
 use Rattle.xl_noted.specs.declared.noted.Noted.{Noted as Kept}
-use Rattle.xl_noted.specs.declared.noted.NotedHearing.{NotedHearing as KeptHearing}
 use Rattle.xl_noted.specs.declared.noted.NotedRound.{NotedRound as KeptRound}
-use Rattle.xl_noted.specs.Noted.{Noted, NotedHearing, NotedRound}
+use Rattle.xl_noted.specs.Noted.{Noted, NotedRound}
 
 abbrev pub round_seen : KeptRound → NotedRound
 round_seen r = record {
@@ -27,16 +26,4 @@ noted_seen n = record {
   last = n.last;
   preferred = n.preferred;
   round = round_seen n.round;
-}
-
-abbrev pub hearing_seen : KeptHearing → NotedHearing
-hearing_seen n = record {
-  time = n.time;
-  member = n.member;
-  ledgers = n.ledgers;
-  last = n.last;
-  preferred = n.preferred;
-  pending = n.pending.items;
-  proposers = n.proposers;
-  agreeing = n.agreeing;
 }

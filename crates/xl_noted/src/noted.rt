@@ -1,11 +1,11 @@
 // What is noted of a node before an event.
 ghost use Rattle.std.specs.Prelude.{◌≡◌, IfOk};
-ghost use Rattle.xl_noted.specs.Noted.{hearing_noted, noted, round_noted};
-ghost use Rattle.xl_noted.specs.Seen.{hearing_seen, noted_seen, round_seen};
+ghost use Rattle.xl_noted.specs.Noted.{noted, round_noted};
+ghost use Rattle.xl_noted.specs.Seen.{noted_seen, round_seen};
 
 use crate::members::{NotedMember, note_members};
 use std::alloc::Global;
-use xl_base::{Millis, NodeNo, OutOfMemory, Seq, TxId};
+use xl_base::{Millis, OutOfMemory, Seq, TxId};
 use xl_core::{LastReport, Node, Report};
 use xl_lists::List;
 use xl_rounds::{Mode, Phase, Round};
@@ -51,19 +51,6 @@ pub struct Noted {
     pub round: NotedRound,
 }
 
-/// What a node holds that may be new once it has heard something of a member.
-#[derive(Drop)]
-pub struct NotedHearing {
-    pub time: Millis,
-    pub member: NotedMember,
-    pub ledgers: u32,
-    pub last: LastReport,
-    pub preferred: Option<Report>,
-    pub pending: Vec<TxId>,
-    pub proposers: u32,
-    pub agreeing: u32,
-}
-
 impl NotedRound {
     fn of(alloc: Global, round: &Round) -> Result<NotedRound, OutOfMemory>
         ensures { IfOk result (λ noted. round_seen noted ≡ round_noted round.now) }
@@ -96,25 +83,6 @@ impl Noted {
             last: *node.last(),
             preferred: node.preferred(),
             round: NotedRound::of(alloc, node.round())?,
-        })
-    }
-}
-
-impl NotedHearing {
-    /// What a node holds now of that. Refused only when memory runs out.
-    pub fn of(alloc: Global, node: &Node<Trie>, member: NodeNo) -> Result<NotedHearing, OutOfMemory>
-        ensures { IfOk result (λ now. hearing_seen now ≡ hearing_noted node.now member) }
-    {
-        let round = node.round();
-        Ok(NotedHearing {
-            time: node.time(),
-            member: NotedMember::of(node, member),
-            ledgers: node.registry().len(),
-            last: *node.last(),
-            preferred: node.preferred(),
-            pending: Vec::from_slice(alloc, round.pending())?,
-            proposers: round.proposers(),
-            agreeing: round.agreeing(),
         })
     }
 }

@@ -31,25 +31,3 @@ frame_told names sent place frame so_far now whole there more is =
 pub none_told : (names : List Named) (sent : List Sent) (place : ℕ) (now : List ℕ) → length sent ≤ place → now ++ sent_lines names (place + 1) (drop place sent) ≡ now
 none_told names sent place now past =
     ap (λ (fs : List Sent). now ++ sent_lines names (place + 1) fs) (none_left sent place past) ∙ append-nil now
-
--- what stands before what a frame says
-abbrev sent_head : ℕ → ℕ → ℕ → List ℕ
-sent_head number from to = codes "sent " ++ decimal number ++ space ++ decimal from ++ space ++ decimal to ++ space
-
-head_joined : (one two three : List ℕ) → one ++ space ++ two ++ space ++ three ++ space ≡ one ++ (space ++ (two ++ (space ++ (three ++ space))))
-head_joined one two three =
-    append_assoc (one ++ space ++ two ++ space) three space
-    ∙ (append_assoc (one ++ space ++ two) space (three ++ space)
-    ∙ (append_assoc (one ++ space) two (space ++ (three ++ space))
-    ∙ append_assoc one space (two ++ (space ++ (three ++ space)))))
-
--- a frame is told, first its numbers, then what it says
-pub frame_written : (names : List Named) (number from to : ℕ) (frame : Sent) (old head said now : List ℕ) → from ≡ frame.from → to ≡ frame.to →
-    head ≡ old ++ (codes "sent " ++ (decimal number ++ (space ++ (decimal from ++ (space ++ (decimal to ++ space)))))) →
-    said ≡ head ++ said_text names (decoded_of frame.bytes) → now ≡ said ++ newline → now ≡ old ++ sent_line names number frame
-frame_written names number from to frame old head said now sender receiver first more is =
-    let leads : head ≡ old ++ sent_head number from to = first ∙ ap (λ (ts : List ℕ). old ++ (codes "sent " ++ ts)) (sym (head_joined (decimal number) (decimal from) (decimal to))) in
-    let words : List ℕ = said_text names (decoded_of frame.bytes) in
-    then_written old (sent_head number from to ++ words) newline said now (then_written old (sent_head number from to) words head said leads more) is
-    ∙ (ap (λ (m : ℕ). old ++ (sent_head number m to ++ words ++ newline)) sender
-    ∙ ap (λ (m : ℕ). old ++ (sent_head number frame.from m ++ words ++ newline)) receiver)

@@ -1,27 +1,43 @@
 -- What is told of a node that hears a frame is what it may change.
-use Rattle.std.proofs.Common.{◌≡◌, ℕ, zero, suc, ◌/◌, ◌≤◌, Bool, true, false, List, [], refl, ap, sym, ◌∙◌, subst, Option, Some, None, append-nil}
-use Rattle.std.specs.Prelude.{max, option_map}
+use Rattle.std.proofs.Common.{◌≡◌, ℕ, zero, suc, ◌/◌, ◌≤◌, Bool, true, false, List, [], length, arith, refl, ap, sym, ◌∙◌, subst, Option, Some, None, Result, Ok, Err, append-nil}
+use Rattle.std.specs.Prelude.{max, nat_lt, option_map}
+use Rattle.std.proofs.lemmas.Bool.{cond-false}
+use Rattle.std.proofs.lemmas.Bool.Decides.{nat_tests}
+use Rattle.xl_base.specs.Refusals.{unless_refused}
+use Rattle.xl_base.specs.declared.ids.TxId.{TxId}
 use Rattle.xl_lists.specs.Lists.{IsValid, is_on}
 use Rattle.xl_wire.specs.declared.body.Body.{Body}
 use Rattle.xl_wire.specs.declared.refusal.WireRefusal.{WireRefusal}
+use Rattle.xl_wire.specs.Bodies.{IsBody, body_in, body_of, body_refusal}
 use Rattle.xl_wire.specs.Frames.{raw_of}
+use Rattle.xl_wire.specs.Kinds.{span}
+use Rattle.xl_wire.proofs.BodyLaws.{body_again}
+use Rattle.xl_wire.proofs.Numbers.{IsBytes}
 use Rattle.xl_wire.specs.Heads.{head_refusal, lacking, raw_in, split_of, split_unless}
 use Rattle.xl_wire.specs.Heads.Split.{Whole}
-use Rattle.xl_wire.specs.Raws.{RawFrame, raw_bytes}
-use Rattle.xl_wire.proofs.RawLaws.{split_again}
+use Rattle.xl_wire.specs.Raws.{IsRaw, RawFrame, raw_bytes}
+use Rattle.xl_wire.proofs.RawLaws.{split_again, split_spelled}
 use Rattle.xl_tags.specs.Rings.{Ring}
-use Rattle.xl_tags.specs.Sealing.{sealed}
+use Rattle.xl_tags.specs.Sealing.{as_sealed, sealed}
+use Rattle.xl_tags.proofs.OpeningLaws.{IsRaw-as_sealed}
 use Rattle.xl_core.specs.declared.event.CoreEvent.{CoreEvent}
 use Rattle.xl_core.specs.declared.event.CoreEvent.TheVariants.{Frame}
 use Rattle.xl_core.specs.Core.{Core, CoreReply}
-use Rattle.xl_core.specs.Hearing.{said_in}
+use Rattle.xl_core.specs.declared.hearing.Speech.{Speech}
+use Rattle.xl_core.specs.declared.hearing.Speech.TheVariants as speech
+use Rattle.xl_core.specs.declared.hearing.Spoken.{Spoken}
+use Rattle.xl_core.specs.Hearing.{bytes_as_sealed, said_in, sealed_in, speech_of}
 use Rattle.xl_core.specs.Node.{Node, at_moment, bytes_reply}
 use Rattle.xl_core.specs.Sending.{blank_frame, has_spelling, sealed_bytes}
 use Rattle.xl_core.proofs.Spelling.{sealed_raw}
-use Rattle.xl_held.proofs.Untold.{heard_is_changed}
-use Rattle.xl_noted.specs.Hearing.{LeavesOthers}
-use Rattle.xl_noted.specs.Noted.{Noted, NotedHearing, hearing_noted, noted}
-use Rattle.xl_noted.proofs.Hearing.{hearing_leaves}
+use Rattle.xl_held.specs.Changes.{changed_lines}
+use Rattle.xl_held.proofs.Untold.{header_told, proposal_told, set_told, tx_told, vote_told}
+use Rattle.xl_noted.specs.declared.noted.Noted.{Noted as Kept}
+use Rattle.xl_noted.specs.Hearing.{LeavesOthers, LeavesRest}
+use Rattle.xl_noted.specs.Noted.{Noted, noted}
+use Rattle.xl_noted.specs.Seen.{noted_seen}
+use Rattle.xl_noted.proofs.Hearing.{hearing_leaves, hearing_leaves_rest}
+use Rattle.xl_rounds.specs.Positions.{Positions}
 use Rattle.xl_sched.specs.declared.event.Event.{Event}
 use Rattle.xl_sched.specs.declared.named.Named.{Named}
 use Rattle.xl_world.specs.declared.place.Fate.TheVariants.{Saved}
@@ -36,8 +52,10 @@ use Rattle.xl_world.proofs.Emptying.{emptied, emptied_acts, emptied_node, event_
 use Rattle.xl_world.proofs.Keeping.{core_keeps}
 use Rattle.xl_world.proofs.Putting.{put_at}
 use Rattle.xl_world.proofs.Settling.{at_its_number}
-use Rattle.xl_tell.specs.Before.{Delivers, IsBrief}
-use Rattle.xl_tell.specs.Nodes.{changed_at, changed_in, heard_in, node_of, noted_at}
+use Rattle.xl_tell.specs.declared.before.Before.{Before}
+use Rattle.xl_tell.specs.declared.before.Before.TheVariants as before
+use Rattle.xl_tell.specs.Before.{Delivers, IsBrief, Says, heard_noted, told_at, told_by, told_of}
+use Rattle.xl_tell.specs.Nodes.{changed_at, changed_in, node_of, noted_at}
 use Rattle.xl_tell.specs.Parts.{new_holdings}
 use Rattle.xl_tell.proofs.Currents.{core_is_current}
 
@@ -48,13 +66,46 @@ whole_raw (Some why) lack raw f e = absurd cc
 whole_raw None (suc lack) raw f e = absurd cc
 whole_raw None zero raw f e = cc
 
--- a sealed frame is from its sender
-pub sealed_from : (ring : Ring) (from to : ℕ) (body : Body) → has_spelling from to body ≡ true → (said_in (raw_in (sealed_bytes ring from to body))).from ≡ from
-sealed_from ring from to body spelled =
+-- the frame that a ring seals says its body, and is from its sender
+pub sealed_says : (ring : Ring) (from to : ℕ) (body : Body) → has_spelling from to body ≡ true → IsBody body → said_in (raw_in (sealed_bytes ring from to body)) ≡ record { from = from; what = speech_of body }
+sealed_says ring from to body spelled fits =
     let f : RawFrame = sealed ring (raw_of (blank_frame from to body)) in
     let bytes : List ℕ = raw_bytes f in
     let whole : split_of bytes ≡ Whole f = ap split_of (sym (append-nil bytes)) ∙ split_again f [] (sealed_raw ring from to body spelled) in
-    ap (λ (raw : RawFrame). raw.from) (whole_raw (head_refusal bytes) (lacking bytes) (raw_in bytes) f whole)
+    let same : body_in f.kind f.body ≡ body = read_so f.kind f.body body (body_again body fits) in
+    ap said_in (whole_raw (head_refusal bytes) (lacking bytes) (raw_in bytes) f whole)
+    ∙ ap (λ (b : Body). let said : Spoken = record { from = from; what = speech_of b } in said) same
+  where
+    ok_same : (o : Option WireRefusal) (b body : Body) → unless_refused o b ≡ Ok body → b ≡ body
+    ok_same (Some why) b body e = absurd cc
+    ok_same None b body e = cc
+
+    read_so : (kind : ℕ) (bytes : List ℕ) (body : Body) → body_of kind bytes ≡ Ok body → body_in kind bytes ≡ body
+    read_so kind bytes body e = ok_same (body_refusal kind bytes) (body_in kind bytes) body e
+
+-- the ids of a set
+abbrev pub ids_of : Speech → List TxId
+ids_of (speech.Validation v) = []
+ids_of (speech.Proposal p) = []
+ids_of (speech.Header h) = []
+ids_of (speech.TxSet ids) = ids
+ids_of (speech.Tx tx) = []
+
+-- so is a set that is kept as bytes with any tag
+pub kept_set : (ring : Ring) (bytes : List ℕ) (f : RawFrame) → IsBytes bytes → split_of bytes ≡ Whole f → f.kind ≡ 4 → span f.body ≡ length bytes →
+    said_in (raw_in (bytes_as_sealed ring bytes)) ≡ record { from = f.from; what = speech.TxSet (ids_of (speech_of (body_in 4 f.body))) }
+kept_set ring bytes f fits is kind length_is =
+    let g : RawFrame = as_sealed ring f in
+    let ok : IsRaw g = IsRaw-as_sealed ring f (split_spelled bytes f fits is).frame in
+    let whole : split_of (raw_bytes g) ≡ Whole g = ap split_of (sym (append-nil (raw_bytes g))) ∙ split_again g [] ok in
+    let sent : bytes_as_sealed ring bytes ≡ raw_bytes g =
+    ap (sealed_in ring bytes) is ∙ cond-false (nat_lt (span f.body) (length bytes)) bytes (raw_bytes g) (not_less (span f.body) (length bytes) length_is) in
+    ap (λ (bs : List ℕ). said_in (raw_in bs)) sent
+    ∙ (ap said_in (whole_raw (head_refusal (raw_bytes g)) (lacking (raw_bytes g)) (raw_in (raw_bytes g)) g whole)
+    ∙ ap (λ (k : ℕ). let said : Spoken = record { from = f.from; what = speech_of (body_in k f.body) } in said) kind)
+  where
+    not_less : (a b : ℕ) → a ≡ b → nat_lt a b ≡ false
+    not_less a b same = grind (arith, nat_tests, same)
 
 -- THE NODE BEHIND IT
 
@@ -89,34 +140,65 @@ has_heard w i at bytes core is = by_place (place_at i w.places) refl is
 
 -- WHAT IS TOLD
 
+-- what is told of a node by what a member says to it
+kind_told : (names : List Named) (i m : ℕ) (n later : Node) (what : Speech) → LeavesOthers m n later → IsValid n.list → is_on n.list.members m ≡ true → LeavesRest what n later →
+    told_of names (heard_noted i n m what) later ≡ changed_lines names i (noted n) later
+kind_told names i m n later (speech.Validation v) leaves valid on rest = vote_told names i m n later leaves valid on rest.0 rest.1
+kind_told names i m n later (speech.Proposal p) leaves valid on rest = proposal_told names i m n later leaves valid on rest.0 rest.1 rest.2 rest.3
+kind_told names i m n later (speech.Header h) leaves valid on rest = header_told names i m n later leaves valid on rest.0 rest.1 rest.2
+kind_told names i m n later (speech.TxSet ids) leaves valid on rest = set_told names i m n later leaves valid on rest.0 rest.1 rest.2 rest.3 rest.4
+kind_told names i m n later (speech.Tx tx) leaves valid on rest =
+    tx_told names i m n later leaves valid on rest.0 rest.1 rest.2 (ap (λ (ps : Positions). ps.members) rest.3) rest.4
+
+-- what is noted for a node is told of that node
+of_its_number : (names : List Named) (i : ℕ) (n : Node) (m : ℕ) (what : Speech) (w : World) → told_by names (heard_noted i n m what) w ≡ told_at names (heard_noted i n m what) (core_in w i)
+of_its_number names i n m (speech.Validation v) w = refl
+of_its_number names i n m (speech.Proposal p) w = refl
+of_its_number names i n m (speech.Header h) w = refl
+of_its_number names i n m (speech.TxSet ids) w = refl
+of_its_number names i n m (speech.Tx tx) w = refl
+
 -- what is told of a node that hears a frame of a member within a second
-pub hearing_told : (names : List Named) (w : World) (e : Event) (frame : Sent) (core : Core) (m : ℕ) →
-    Delivers w e.what frame → IsRun w → core_in w frame.to ≡ Some core → (said_in (raw_in frame.bytes)).from ≡ m → 1 ≤ m → IsValid core.node.list → is_on core.node.list.members m ≡ true →
+hearing_told : (names : List Named) (w : World) (e : Event) (frame : Sent) (core : Core) (what : Speech) →
+    Delivers w e.what frame → IsRun w → core_in w frame.to ≡ Some core → Says frame what → 1 ≤ frame.from → IsValid core.node.list → is_on core.node.list.members frame.from ≡ true →
     max core.node.time e.at / 1000 ≡ core.node.time / 1000 →
-    heard_in names frame.to (hearing_noted core.node m) (core_in (after_event w e) frame.to) ≡ new_holdings names w e
-hearing_told names w e frame core m delivers came there speaker low valid on same =
+    told_by names (heard_noted frame.to core.node frame.from what) (after_event w e) ≡ new_holdings names w e
+hearing_told names w e frame core what delivers came there says low valid on same =
     let i : ℕ = frame.to in
+    let m : ℕ = frame.from in
     let n : Node = core.node in
+    let told : Before = heard_noted i n m what in
     let heard : HasHeard w i e.at frame.bytes n = has_heard w i e.at frame.bytes core there in
     let n' : Node = heard.later.node in
     let after : core_in (after_event w e) i ≡ Some heard.later = ap (λ (ss : List Step). core_in (run w ss) i) (delivers.steps e.at) ∙ heard.there in
+    let current = core_is_current w came i core there in
+    let speaker : (said_in (raw_in frame.bytes)).from ≡ m = ap (λ (said : Spoken). said.from) says in
     let leaves : LeavesOthers m n n' =
     subst (λ (x : Node). LeavesOthers m n x) (sym heard.node)
     (subst (λ (k : ℕ). LeavesOthers k n (bytes_reply (at_moment e.at n) frame.bytes).node) speaker
-    (hearing_leaves e.at n frame.bytes (core_is_current w came i core there) same (subst (λ (k : ℕ). 1 ≤ k) (sym speaker) low))) in
-    ap (heard_in names i (hearing_noted n m)) after
-    ∙ (heard_is_changed names i m n n' leaves valid on
+    (hearing_leaves e.at n frame.bytes current same (subst (λ (k : ℕ). 1 ≤ k) (sym speaker) low))) in
+    let rest : LeavesRest what n n' =
+    subst (λ (x : Node). LeavesRest what n x) (sym heard.node)
+    (subst (λ (said : Spoken). LeavesRest said.what n (bytes_reply (at_moment e.at n) frame.bytes).node) says (hearing_leaves_rest e.at n frame.bytes current same)) in
+    of_its_number names i n m what (after_event w e)
+    ∙ (ap (told_at names told) after
+    ∙ (kind_told names i m n n' what leaves valid on rest
     ∙ (ap (changed_in names i (noted n)) (sym after)
     ∙ (ap (λ (o : Option Core). changed_at names (Some i) (option_map (λ (c : Core). noted c.node) o) (after_event w e)) (sym there)
-    ∙ ap (λ (o : Option ℕ). changed_at names o (noted_at w o) (after_event w e)) (sym delivers.node))))
+    ∙ ap (λ (o : Option ℕ). changed_at names o (noted_at w o) (after_event w e)) (sym delivers.node)))))
 
 -- what is told by all that the node held
-pub whole_tells : (w : World) (e : Event) (i : ℕ) (core : Core) (b : Noted) → node_of w e.what ≡ Some i → Some core ≡ core_in w i → b ≡ noted core.node → (names : List Named) →
-    changed_in names i b (core_in (after_event w e) i) ≡ new_holdings names w e
+pub whole_tells : (w : World) (e : Event) (i : ℕ) (core : Core) (b : Kept) → node_of w e.what ≡ Some i → Some core ≡ core_in w i → noted_seen b ≡ noted core.node → (names : List Named) →
+    told_at names (before.Whole i b) (core_in (after_event w e) i) ≡ new_holdings names w e
 whole_tells w e i core b at there is names =
-    ap (λ (x : Noted). changed_in names i x (core_in (after_event w e) i)) is
+    as_changed (core_in (after_event w e) i)
+    ∙ (ap (λ (x : Noted). changed_in names i x (core_in (after_event w e) i)) is
     ∙ (ap (λ (o : Option Core). changed_at names (Some i) (option_map (λ (c : Core). noted c.node) o) (after_event w e)) there
-    ∙ ap (λ (o : Option ℕ). changed_at names o (noted_at w o) (after_event w e)) (sym at))
+    ∙ ap (λ (o : Option ℕ). changed_at names o (noted_at w o) (after_event w e)) (sym at)))
+  where
+    as_changed : (o : Option Core) → told_at names (before.Whole i b) o ≡ changed_in names i (noted_seen b) o
+    as_changed None = refl
+    as_changed (Some c) = refl
 
 -- nothing is told of a number that has no node, nor of no number
 pub nobody_tells : (w : World) (e : Event) (i : ℕ) → node_of w e.what ≡ Some i → None ≡ core_in w i → (names : List Named) → [] ≡ new_holdings names w e
@@ -128,14 +210,14 @@ pub nowhere_tells : (w : World) (e : Event) → None ≡ node_of w e.what → (n
 nowhere_tells w e at names = ap (λ (o : Option ℕ). changed_at names o (noted_at w o) (after_event w e)) at
 
 -- what is told by what may be new
-pub hearing_tells : (w : World) (e : Event) (frame : Sent) (i m : ℕ) (core : Core) (b : NotedHearing) →
-    Delivers w e.what frame → IsBrief w frame.to e.at m → i ≡ frame.to → Some core ≡ core_in w i → b ≡ hearing_noted core.node m → (said_in (raw_in frame.bytes)).from ≡ m → 1 ≤ m → (names : List Named) →
-    heard_in names i b (core_in (after_event w e) i) ≡ new_holdings names w e
-hearing_tells w e frame i m core b delivers brief to there is speaker low names =
+pub hearing_tells : (w : World) (e : Event) (frame : Sent) (i : ℕ) (core : Core) (n : Node) (what : Speech) →
+    Delivers w e.what frame → IsBrief w frame.to e.at frame.from → i ≡ frame.to → Some core ≡ core_in w i → n ≡ core.node → Says frame what → 1 ≤ frame.from → (names : List Named) →
+    told_by names (heard_noted i n frame.from what) (after_event w e) ≡ new_holdings names w e
+hearing_tells w e frame i core n what delivers brief to there is says low names =
     let same : core ≡ brief.core = same_core core brief.core (there ∙ (ap (core_in w) to ∙ brief.there)) in
-    ap (λ (j : ℕ). heard_in names j b (core_in (after_event w e) j)) to
-    ∙ (ap (λ (x : NotedHearing). heard_in names frame.to x (core_in (after_event w e) frame.to)) (is ∙ ap (λ (c : Core). hearing_noted c.node m) same)
-    ∙ hearing_told names w e frame brief.core m delivers brief.came brief.there speaker low brief.valid brief.listed brief.within)
+    ap (λ (j : ℕ). told_by names (heard_noted j n frame.from what) (after_event w e)) to
+    ∙ (ap (λ (x : Node). told_by names (heard_noted frame.to x frame.from what) (after_event w e)) (is ∙ ap (λ (c : Core). c.node) same)
+    ∙ hearing_told names w e frame brief.core what delivers brief.came brief.there says low brief.valid brief.listed brief.within)
 
 -- there is such a node
 pub has_node : (w : World) (frame : Sent) (i at m : ℕ) → IsBrief w frame.to at m → i ≡ frame.to → None ≡ core_in w i → ⊥

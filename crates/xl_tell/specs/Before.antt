@@ -1,25 +1,74 @@
 -- What is noted before a part of an event, and what is told by it. Source: what the code of this crate keeps.
-use Rattle.std.specs.Prelude.{◌≡◌, ◌/◌, ℕ, max, true, List, [], Some}
+use Rattle.std.specs.Prelude.{◌≡◌, ◌/◌, ℕ, max, true, List, [], Option, Some, None}
+use Rattle.std.specs.Option.{option_and_then}
+use Rattle.xl_base.specs.declared.ids.TxId.{TxId}
 use Rattle.xl_core.specs.Core.{Core}
+use Rattle.xl_core.specs.declared.hearing.Speech.{Speech}
+use Rattle.xl_core.specs.declared.hearing.Speech.TheVariants as speech
+use Rattle.xl_core.specs.Hearing.{said_in}
+use Rattle.xl_core.specs.Node.{Node}
+use Rattle.xl_held.specs.Changes.{changed_lines}
+use Rattle.xl_held.specs.Hearing.{header_heard, proposal_heard, set_heard, tx_heard, vote_heard}
 use Rattle.xl_lists.specs.Lists.{IsValid, is_on}
-use Rattle.xl_noted.specs.Seen.{hearing_seen, noted_seen}
+use Rattle.xl_noted.specs.Hearing.{ledgers_noted, pending_noted, position_noted, vote_noted}
+use Rattle.xl_noted.specs.Seen.{noted_seen}
 use Rattle.xl_sched.specs.declared.event.Event.{Event}
 use Rattle.xl_sched.specs.declared.event.What.{What}
 use Rattle.xl_sched.specs.declared.named.Named.{Named}
 use Rattle.xl_tell.specs.declared.before.Before.{Before}
 use Rattle.xl_tell.specs.declared.before.Before.TheVariants as before
-use Rattle.xl_tell.specs.Nodes.{changed_in, heard_in, node_of}
+use Rattle.xl_tell.specs.Nodes.{node_of}
 use Rattle.xl_tell.specs.Parts.{new_holdings}
+use Rattle.xl_wire.specs.Heads.{raw_in}
 use Rattle.xl_world.specs.Schedule.{after_event, delivery, steps_at}
 use Rattle.xl_world.specs.Sending.{Sent}
 use Rattle.xl_world.specs.Starts.{IsRun}
 use Rattle.xl_world.specs.World.{World, core_in}
 
--- what is told of a node in a world by what was noted
+-- the node of which it is
+abbrev pub number_of : Before → Option ℕ
+number_of before.Nobody = None
+number_of (before.Whole i noted) = Some i
+number_of (before.Vote i noted) = Some i
+number_of (before.Position i noted) = Some i
+number_of (before.Ledgers i noted) = Some i
+number_of (before.Pending i noted) = Some i
+number_of (before.Time i noted) = Some i
+
+-- what is told of a node by what was noted
+abbrev pub told_of : List Named → Before → Node → List ℕ
+told_of names before.Nobody n = []
+told_of names (before.Whole i noted) n = changed_lines names i (noted_seen noted) n
+told_of names (before.Vote i noted) n = vote_heard names i noted n
+told_of names (before.Position i noted) n = proposal_heard names i noted n
+told_of names (before.Ledgers i noted) n = header_heard names i noted n
+told_of names (before.Pending i noted) n = tx_heard names i noted n
+told_of names (before.Time i noted) n = set_heard i noted n
+
+abbrev pub told_at : List Named → Before → Option Core → List ℕ
+told_at names b None = []
+told_at names b (Some core) = told_of names b core.node
+
+-- and of the node in a world
 abbrev pub told_by : List Named → Before → World → List ℕ
-told_by names before.Nobody w = []
-told_by names (before.Whole number noted) w = changed_in names number (noted_seen noted) (core_in w number)
-told_by names (before.Hearing number noted) w = heard_in names number (hearing_seen noted) (core_in w number)
+told_by names b w = told_at names b (option_and_then (core_in w) (number_of b))
+
+-- what is noted of a node before a member says this to it
+abbrev pub heard_noted : ℕ → Node → ℕ → Speech → Before
+heard_noted i n m (speech.Validation v) = before.Vote i (vote_noted n m)
+heard_noted i n m (speech.Proposal p) = before.Position i (position_noted n m)
+heard_noted i n m (speech.Header h) = before.Ledgers i (ledgers_noted n)
+heard_noted i n m (speech.TxSet ids) = before.Time i n.time
+heard_noted i n m (speech.Tx tx) = before.Pending i (pending_noted n)
+
+-- a frame's sender says this in it
+abbrev pub Says : Sent → Speech → Type 0
+Says frame what = said_in (raw_in frame.bytes) ≡ record { from = frame.from; what = what }
+
+-- some set
+pub record SaysSet (frame : Sent) : Type 0 where
+  pub ids : List TxId
+  pub says : Says frame (speech.TxSet ids)
 
 -- by it is told what is told of the part
 abbrev pub Tells : World → Event → Before → Type 0

@@ -2,8 +2,8 @@
 use Rattle.std.specs.Prelude.{ℕ, List, [], Option, Some, None, option_map}
 use Rattle.std.specs.List.{flat_map}
 use Rattle.xl_core.specs.Core.{Core}
-use Rattle.xl_held.specs.Changes.{changed_lines, heard_lines, opened_lines}
-use Rattle.xl_noted.specs.Noted.{Noted, NotedHearing, noted}
+use Rattle.xl_held.specs.Changes.{changed_lines, opened_lines}
+use Rattle.xl_noted.specs.Noted.{Noted, noted}
 use Rattle.xl_sched.specs.declared.event.What.{What}
 use Rattle.xl_sched.specs.declared.event.What.TheVariants as what
 use Rattle.xl_sched.specs.declared.named.Named.{Named}
@@ -36,11 +36,6 @@ noted_at w (Some i) = option_map (λ core. noted core.node) (core_in w i)
 abbrev pub changed_in : List Named → ℕ → Noted → Option Core → List ℕ
 changed_in names i before None = []
 changed_in names i before (Some core) = changed_lines names i before core.node
-
--- of a node that has heard something of a member within a second
-abbrev pub heard_in : List Named → ℕ → NotedHearing → Option Core → List ℕ
-heard_in names i before None = []
-heard_in names i before (Some core) = heard_lines names i before core.node
 
 -- what the node holds in a world that it didn't hold before
 abbrev pub changed_at : List Named → Option ℕ → Option Noted → World → List ℕ

@@ -10,6 +10,7 @@ ghost use Rattle.xl_world.specs.Schedule.{IsPlausible};
 
 use crate::nodes::push_all_opened;
 use crate::parts::{tell_part, world_in};
+use crate::sent::Speller;
 use std::alloc::Global;
 use xl_base::{Millis, OutOfMemory};
 use xl_running::Running;
@@ -37,6 +38,7 @@ fn tell_all(
     alloc: Global,
     running: &mut Running,
     at: Millis,
+    speller: &mut Speller,
     text: &mut String,
 ) -> Result<(), OutOfMemory>
     requires opened { running.old.world ≡ Some (world_of running.old) }
@@ -50,10 +52,10 @@ fn tell_all(
     let (first, end) = running.undelivered();
     for place in first..end {
         let what = What::Deliver { place: place + 1 };
-        tell_part(alloc, running, &Event { at, what }, text)?;
+        tell_part(alloc, running, &Event { at, what }, speller, text)?;
     }
     let what = What::Drop;
-    tell_part(alloc, running, &Event { at, what }, text)?;
+    tell_part(alloc, running, &Event { at, what }, speller, text)?;
     Ok(())
 }
 
@@ -62,6 +64,7 @@ fn tell_timers(
     alloc: Global,
     running: &mut Running,
     at: Millis,
+    speller: &mut Speller,
     text: &mut String,
 ) -> Result<(), OutOfMemory>
     requires opened { running.old.world ≡ Some (world_of running.old) }
@@ -75,7 +78,7 @@ fn tell_timers(
     let numbers = running.numbers()?;
     for &node in numbers.as_slice() {
         let what = What::Ask(Ask::Timer { node });
-        tell_part(alloc, running, &Event { at, what }, text)?;
+        tell_part(alloc, running, &Event { at, what }, speller, text)?;
     }
     Ok(())
 }
@@ -85,6 +88,7 @@ pub fn tell_event(
     alloc: Global,
     running: &mut Running,
     event: &Event,
+    speller: &mut Speller,
     text: &mut String,
 ) -> Result<(), OutOfMemory>
     requires opened { running.old.world ≡ Some (world_of running.old) }
@@ -96,8 +100,8 @@ pub fn tell_event(
         (parts_of (world_of running.old) event.now)) }
 {
     match &event.what {
-        What::All => tell_all(alloc, running, event.at, text),
-        What::Timers => tell_timers(alloc, running, event.at, text),
-        _ => tell_part(alloc, running, event, text),
+        What::All => tell_all(alloc, running, event.at, speller, text),
+        What::Timers => tell_timers(alloc, running, event.at, speller, text),
+        _ => tell_part(alloc, running, event, speller, text),
     }
 }

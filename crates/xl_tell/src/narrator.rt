@@ -4,6 +4,7 @@ ghost use Rattle.xl_base.specs.Moments.{greatest_millis};
 ghost use Rattle.xl_running.specs.Texts.{bad_line};
 
 use crate::events::{open_world, tell_event};
+use crate::sent::Speller;
 use std::alloc::Global;
 use xl_base::OutOfMemory;
 use xl_lines::{Machine, Next, Overrun, Verdict};
@@ -17,6 +18,7 @@ use xl_world::first_fork;
 pub struct Narrator {
     alloc: Global,
     running: Running,
+    speller: Speller,
 }
 
 impl Narrator {
@@ -34,6 +36,7 @@ impl Narrator {
         Ok(Narrator {
             alloc,
             running: Running::open(alloc)?,
+            speller: Speller::open(alloc)?,
         })
     }
 
@@ -46,7 +49,13 @@ impl Narrator {
             ≡ after_line self.old.running (IsEvent event.now)) }
     {
         open_world(self.alloc, &mut self.running, text)?;
-        tell_event(self.alloc, &mut self.running, event, text)?;
+        tell_event(
+            self.alloc,
+            &mut self.running,
+            event,
+            &mut self.speller,
+            text,
+        )?;
         Ok(())
     }
 

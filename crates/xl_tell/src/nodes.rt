@@ -1,18 +1,21 @@
 // The node at which something happens, and what it holds.
 ghost use Rattle.std.specs.Prelude.{◌≡◌, ◌++◌, OnOk, option_map};
 ghost use Rattle.std.specs.String.{string_bytes};
-ghost use Rattle.xl_noted.specs.Seen.{hearing_seen, noted_seen};
-ghost use Rattle.xl_tell.specs.Before.{told_by};
-ghost use Rattle.xl_tell.specs.Nodes.{all_opened, changed_in, heard_in, node_of, opened_in};
+ghost use Rattle.xl_tell.specs.Before.{told_by, told_of};
+ghost use Rattle.xl_tell.specs.Nodes.{all_opened, node_of, opened_in};
 ghost use Rattle.xl_world.specs.Schedule.{frame_at, node_asked};
 ghost use Rattle.xl_world.specs.World.{core_in};
 
 use crate::before::Before;
 use std::alloc::Global;
 use xl_base::{NodeNo, OutOfMemory};
-use xl_held::{push_changed, push_heard, push_opened};
-use xl_noted::{Noted, NotedHearing};
+use xl_core::Node;
+use xl_held::{
+    push_changed, push_header_heard, push_opened, push_proposal_heard, push_set_heard,
+    push_tx_heard, push_vote_heard,
+};
 use xl_sched::{Ask, Reader, What};
+use xl_trie::Trie;
 use xl_world::{Sent, World};
 
 fn node_asked(ask: &Ask) -> NodeNo
@@ -66,39 +69,33 @@ pub fn node_of(world: &World, what: &What) -> Option<NodeNo>
     }
 }
 
-/// What the node of a number holds that it didn't hold when it was noted.
-fn push_changed_in(
+/// What a node holds that it didn't hold when this was noted.
+fn push_told_of(
     alloc: Global,
     text: &mut String,
     reader: &Reader,
-    number: NodeNo,
-    before: &Noted,
-    world: &World,
+    before: &Before,
+    node: &Node<Trie>,
 ) -> Result<(), OutOfMemory>
     ensures { OnOk result (string_bytes text.new ≡ string_bytes text.old
-        ++ changed_in reader.now.names number (noted_seen before.now) (core_in world.now number)) }
+        ++ told_of reader.now.names before.now node.now) }
 {
-    match world.node(number) {
-        Some(core) => push_changed(alloc, text, reader, number, before, core.node()),
-        None => Ok(()),
-    }
-}
-
-/// What the node of a number holds that has heard something, and didn't hold when it was noted.
-fn push_heard_in(
-    alloc: Global,
-    text: &mut String,
-    reader: &Reader,
-    number: NodeNo,
-    before: &NotedHearing,
-    world: &World,
-) -> Result<(), OutOfMemory>
-    ensures { OnOk result (string_bytes text.new ≡ string_bytes text.old
-        ++ heard_in reader.now.names number (hearing_seen before.now) (core_in world.now number)) }
-{
-    match world.node(number) {
-        Some(core) => push_heard(alloc, text, reader, number, before, core.node()),
-        None => Ok(()),
+    match before {
+        Before::Nobody => Ok(()),
+        Before::Whole { number, noted } => push_changed(alloc, text, reader, *number, noted, node),
+        Before::Vote { number, noted } => {
+            push_vote_heard(alloc, text, reader, *number, noted, node)
+        }
+        Before::Position { number, noted } => {
+            push_proposal_heard(alloc, text, reader, *number, noted, node)
+        }
+        Before::Ledgers { number, noted } => {
+            push_header_heard(alloc, text, reader, *number, noted, node)
+        }
+        Before::Pending { number, noted } => {
+            push_tx_heard(alloc, text, reader, *number, noted, node)
+        }
+        Before::Time { number, noted } => push_set_heard(text, *number, *noted, node),
     }
 }
 
@@ -113,14 +110,12 @@ pub fn push_told(
     ensures { OnOk result (string_bytes text.new ≡ string_bytes text.old
         ++ told_by reader.now.names before.now world.now) }
 {
-    match before {
-        Before::Nobody => Ok(()),
-        Before::Whole { number, noted } => {
-            push_changed_in(alloc, text, reader, *number, noted, world)
-        }
-        Before::Hearing { number, noted } => {
-            push_heard_in(alloc, text, reader, *number, noted, world)
-        }
+    let Some(number) = before.number() else {
+        return Ok(());
+    };
+    match world.node(number) {
+        Some(core) => push_told_of(alloc, text, reader, before, core.node()),
+        None => Ok(()),
     }
 }
 

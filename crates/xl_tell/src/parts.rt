@@ -8,7 +8,7 @@ ghost use Rattle.xl_world.specs.Schedule.{IsPlausible};
 
 use crate::before::note_before;
 use crate::nodes::push_told;
-use crate::sent::push_sent;
+use crate::sent::{Speller, push_sent};
 use std::alloc::Global;
 use xl_base::OutOfMemory;
 use xl_replay::push_outcomes;
@@ -33,6 +33,7 @@ pub fn tell_part(
     alloc: Global,
     running: &mut Running,
     event: &Event,
+    speller: &mut Speller,
     text: &mut String,
 ) -> Result<(), OutOfMemory>
     requires opened { running.old.world ≡ Some (world_of running.old) }
@@ -46,12 +47,12 @@ pub fn tell_part(
     push_event(alloc, text, reader, reader.lines(), event)?;
     let first = world_in(running);
     let sent = first.sent().len();
-    let before = note_before(alloc, first, event)?;
+    let before = note_before(alloc, first, event, &mut speller.room)?;
     let happened = running.event(event)?;
     let reader = running.reader();
     push_outcomes(alloc, text, reader, reader.lines(), happened.as_slice())?;
     let world = world_in(running);
-    push_sent(alloc, text, reader, world.sent(), sent)?;
+    push_sent(alloc, text, reader, speller, world.sent(), sent)?;
     push_told(alloc, text, reader, &before, world)?;
     Ok(())
 }

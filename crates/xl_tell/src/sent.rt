@@ -1,24 +1,43 @@
 // The frames that were sent.
-ghost use Rattle.std.specs.Prelude.{◌≡◌, ◌+◌, ◌++◌, drop, OnOk};
+ghost use Rattle.std.specs.Prelude.{◌≡◌, ◌+◌, ◌++◌, codes, decimal, drop, OnOk};
 ghost use Rattle.std.specs.String.{string_bytes};
+ghost use Rattle.xl_running.specs.Texts.{space};
 ghost use Rattle.xl_tell.specs.Parts.{sent_line, sent_lines};
 ghost use Rattle.xl_told.specs.Bodies.{said_text};
 ghost use Rattle.xl_wire.specs.Frames.{decoded_of};
 ghost use Rattle.xl_world.specs.Sending.{body_said, said_to, sent_as};
 
 use std::alloc::Global;
-use std::fmt::Write;
 use xl_base::{NodeNo, OutOfMemory};
 use xl_sched::Reader;
-use xl_told::{push_body, push_said};
+use xl_told::{Hashed, push_body, push_numbered, push_of, push_said};
 use xl_wire::LONGEST_FRAME;
 use xl_world::{Said, Sent, SentFrames};
+
+/// What is kept to spell what frames say: a room for one, and what was hashed last.
+#[derive(Drop)]
+pub struct Speller {
+    // A room of its own would be cleared for each frame.
+    pub room: Box<[u8; LONGEST_FRAME]>,
+    hashed: Hashed,
+}
+
+impl Speller {
+    /// Nothing was hashed yet. Refused only when memory runs out.
+    pub fn open(alloc: Global) -> Result<Speller, OutOfMemory> {
+        Ok(Speller {
+            room: Box::new(alloc, [0; LONGEST_FRAME])?,
+            hashed: Hashed::none(),
+        })
+    }
+}
 
 /// What a frame says between these two that says this.
 fn push_value(
     alloc: Global,
     text: &mut String,
     reader: &Reader,
+    hashed: &mut Hashed,
     from: NodeNo,
     to: NodeNo,
     said: &Said,
@@ -26,7 +45,7 @@ fn push_value(
     ensures { OnOk result (string_bytes text.new ≡ string_bytes text.old
         ++ said_text reader.now.names (decoded_of (said_to from to (body_said said.now)).bytes)) }
 {
-    push_body(alloc, text, reader, &said.body())
+    push_body(alloc, text, reader, hashed, &said.body())
 }
 
 /// What a frame says, of which these bytes are kept.
@@ -35,6 +54,7 @@ fn push_kept(
     alloc: Global,
     text: &mut String,
     reader: &Reader,
+    hashed: &mut Hashed,
     frame: &Sent<'_>,
     kept: &[u8],
 ) -> Result<(), OutOfMemory>
@@ -42,7 +62,7 @@ fn push_kept(
     ensures { OnOk result (string_bytes text.new
         ≡ string_bytes text.old ++ said_text reader.now.names (decoded_of frame.now.bytes)) }
 {
-    push_said(alloc, text, reader, kept)
+    push_said(alloc, text, reader, hashed, kept)
 }
 
 /// What a frame says that is kept as bytes.
@@ -50,14 +70,15 @@ fn push_bytes(
     alloc: Global,
     text: &mut String,
     reader: &Reader,
+    speller: &mut Speller,
     frame: &Sent<'_>,
 ) -> Result<(), OutOfMemory>
     ensures { OnOk result (string_bytes text.new
         ≡ string_bytes text.old ++ said_text reader.now.names (decoded_of frame.now.bytes)) }
 {
-    let mut room = [0; LONGEST_FRAME];
-    let length = frame.put(&mut room);
-    push_kept(alloc, text, reader, frame, &room[..length])
+    let length = frame.put(&mut speller.room);
+    let kept = &speller.room[..length];
+    push_kept(alloc, text, reader, &mut speller.hashed, frame, kept)
 }
 
 /// What a frame says.
@@ -65,15 +86,31 @@ fn push_frame_said(
     alloc: Global,
     text: &mut String,
     reader: &Reader,
+    speller: &mut Speller,
     frame: &Sent<'_>,
 ) -> Result<(), OutOfMemory>
     ensures { OnOk result (string_bytes text.new
         ≡ string_bytes text.old ++ said_text reader.now.names (decoded_of frame.now.bytes)) }
 {
     match frame.said() {
-        Some(said) => push_value(alloc, text, reader, frame.from(), frame.to(), said),
-        None => push_bytes(alloc, text, reader, frame),
+        Some(said) => {
+            let (from, to) = (frame.from(), frame.to());
+            push_value(alloc, text, reader, &mut speller.hashed, from, to, said)
+        }
+        None => push_bytes(alloc, text, reader, speller, frame),
     }
+}
+
+/// The number of a frame, its sender and its receiver.
+fn push_numbers(text: &mut String, number: usize, frame: &Sent<'_>) -> Result<(), OutOfMemory>
+    ensures { OnOk result (string_bytes text.new ≡ string_bytes text.old
+        ++ (codes "sent " ++ decimal number ++ space ++ decimal frame.now.from ++ space ++ decimal frame.now.to ++ space)) }
+{
+    push_numbered(text, "sent ", number as u64)?;
+    push_of(text, " ", frame.from())?;
+    push_of(text, " ", frame.to())?;
+    text.push(' ')?;
+    Ok(())
 }
 
 /// A frame of this number.
@@ -81,15 +118,15 @@ fn push_frame(
     alloc: Global,
     text: &mut String,
     reader: &Reader,
+    speller: &mut Speller,
     number: usize,
     frame: &Sent<'_>,
 ) -> Result<(), OutOfMemory>
     ensures { OnOk result (string_bytes text.new
         ≡ string_bytes text.old ++ sent_line reader.now.names number frame.now) }
 {
-    let (from, to) = (frame.from().get(), frame.to().get());
-    write!(text, "sent {number} {from} {to} ")?;
-    push_frame_said(alloc, text, reader, frame)?;
+    push_numbers(text, number, frame)?;
+    push_frame_said(alloc, text, reader, speller, frame)?;
     text.push('\n')?;
     Ok(())
 }
@@ -99,6 +136,7 @@ pub fn push_sent(
     alloc: Global,
     text: &mut String,
     reader: &Reader,
+    speller: &mut Speller,
     sent: &SentFrames,
     before: usize,
 ) -> Result<(), OutOfMemory>
@@ -109,7 +147,7 @@ pub fn push_sent(
         let Some(frame) = sent.get(place) else {
             unreachable!()
         };
-        push_frame(alloc, text, reader, place + 1, &frame)?;
+        push_frame(alloc, text, reader, speller, place + 1, &frame)?;
     }
     Ok(())
 }

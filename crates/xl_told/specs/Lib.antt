@@ -1,3 +1,4 @@
+pub mod Hashed
 pub mod Words
 pub mod Events
 pub mod Bodies

@@ -1,14 +1,17 @@
 // What a frame says, added to a text.
-ghost use Rattle.std.specs.Prelude.{◌≡◌, ◌++◌, IfOk, OnOk};
+ghost use Rattle.std.specs.Prelude.{◌≡◌, ◌++◌, OnOk};
 ghost use Rattle.std.specs.String.{string_bytes};
+ghost use Rattle.xl_ledger.specs.Headers.{header_id};
 ghost use Rattle.xl_told.specs.Bodies.{body_text, header_text, said_text};
 ghost use Rattle.xl_wire.specs.Frames.{decoded_of};
 
-use crate::words::{push_proposal, push_set_id, push_tx, push_validation};
+use crate::hashed::Hashed;
+use crate::words::{
+    push_number, push_numbered, push_proposal, push_set_id, push_tx, push_validation,
+};
 use std::alloc::Global;
-use std::fmt::Write;
-use xl_base::{OutOfMemory, TxId, set_id};
-use xl_ledger::{Header, id_of, read_header};
+use xl_base::{LedgerId, OutOfMemory};
+use xl_ledger::{Header, read_header};
 use xl_running::push_id;
 use xl_sched::Reader;
 use xl_wire::{Body, Decoded, Ids, decode};
@@ -18,43 +21,33 @@ fn push_header(
     text: &mut String,
     reader: &Reader,
     header: &Header,
+    id: &LedgerId,
 ) -> Result<(), OutOfMemory>
+    requires { id.now ≡ header_id header.now }
     ensures { OnOk result (string_bytes text.new
         ≡ string_bytes text.old ++ header_text reader.now.names header.now) }
 {
-    let (seq, close) = (header.seq, header.close);
-    write!(text, "header {seq} ")?;
-    push_id(alloc, text, reader, &id_of(header))?;
+    push_numbered(text, "header ", u64::from(header.seq))?;
+    text.push(' ')?;
+    push_id(alloc, text, reader, id)?;
     text.push(' ')?;
     push_id(alloc, text, reader, &header.parent)?;
-    write!(text, " {close}")?;
-    Ok(())
+    push_numbered(text, " ", u64::from(header.close))
 }
 
 fn push_set(
     alloc: Global,
     text: &mut String,
     reader: &Reader,
+    hashed: &mut Hashed,
     ids: &Ids<'_>,
 ) -> Result<(), OutOfMemory>
     ensures { OnOk result (string_bytes text.new
         ≡ string_bytes text.old ++ body_text reader.now.names (Body.TxSet ids.now)) }
 {
-    let count = ids.len();
-    let ids = list_of(alloc, ids)?;
-    write!(text, "set {count} ")?;
-    push_set_id(alloc, text, reader, &set_id(&ids))
-}
-
-/// The ids as a list.
-fn list_of(alloc: Global, ids: &Ids<'_>) -> Result<Vec<TxId>, OutOfMemory>
-    ensures { IfOk result (λ list. list.items ≡ ids.now) }
-{
-    let mut list = Vec::new(alloc);
-    for i in 0..ids.len() {
-        list.push(ids.get(i))?;
-    }
-    Ok(list)
+    push_numbered(text, "set ", ids.len() as u64)?;
+    text.push(' ')?;
+    push_set_id(alloc, text, reader, &hashed.set_id(alloc, ids)?)
 }
 
 /// What a body says.
@@ -62,6 +55,7 @@ pub fn push_body(
     alloc: Global,
     text: &mut String,
     reader: &Reader,
+    hashed: &mut Hashed,
     body: &Body<'_>,
 ) -> Result<(), OutOfMemory>
     ensures { OnOk result (string_bytes text.new ≡ string_bytes text.old ++ body_text reader.now.names body.now) }
@@ -75,8 +69,14 @@ pub fn push_body(
             text.push_str("validation ")?;
             push_validation(alloc, text, reader, validation)
         }
-        Body::Header(bytes) => push_header(alloc, text, reader, &read_header(bytes)),
-        Body::TxSet(ids) => push_set(alloc, text, reader, ids),
+        Body::Header(bytes) => push_header(
+            alloc,
+            text,
+            reader,
+            &read_header(bytes),
+            &hashed.header_id(bytes),
+        ),
+        Body::TxSet(ids) => push_set(alloc, text, reader, hashed, ids),
         Body::Tx(id) => {
             text.push_str("tx ")?;
             push_tx(alloc, text, reader, id)
@@ -89,13 +89,14 @@ pub fn push_said(
     alloc: Global,
     text: &mut String,
     reader: &Reader,
+    hashed: &mut Hashed,
     bytes: &[u8],
 ) -> Result<(), OutOfMemory>
     ensures { OnOk result (string_bytes text.new
         ≡ string_bytes text.old ++ said_text reader.now.names (decoded_of bytes.now)) }
 {
     match decode(bytes) {
-        Decoded::Whole(frame, _) => push_body(alloc, text, reader, &frame.body),
+        Decoded::Whole(frame, _) => push_body(alloc, text, reader, hashed, &frame.body),
         Decoded::Need(_) | Decoded::Refused(_) => Ok(text.push_str("none")?),
     }
 }

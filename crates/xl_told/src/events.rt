@@ -8,22 +8,14 @@ ghost use Rattle.hex.specs.Hex.{encode_lower};
 ghost use Rattle.xl_running.specs.Texts.{id_text};
 ghost use Rattle.xl_sched.specs.declared.event.What.TheVariants.{List as IsList, Raw as IsRaw};
 
-use crate::words::{push_fullness, push_ids, push_list, push_proposal, push_tx, push_validation};
+use crate::words::{
+    push_fullness, push_ids, push_list, push_numbered, push_of, push_proposal, push_tx,
+    push_validation,
+};
 use std::alloc::Global;
-use std::fmt::Write;
 use xl_base::{LedgerId, NodeNo, OutOfMemory, Seq};
 use xl_running::push_id;
 use xl_sched::{Ask, Event, Lied, Reader, What, printed_token};
-
-/// A word and the number of a member.
-fn push_of(text: &mut String, word: &str, member: NodeNo) -> Result<(), OutOfMemory>
-    ensures { OnOk result (string_bytes text.new ≡ string_bytes text.old ++ word.now ++ decimal member) }
-{
-    text.push_str(word)?;
-    let number = member.get();
-    write!(text, "{number}")?;
-    Ok(())
-}
 
 fn push_issue(
     alloc: Global,
@@ -37,8 +29,9 @@ fn push_issue(
     ensures { OnOk result (string_bytes text.new
         ≡ string_bytes text.old ++ ask_text reader.now.names (Ask.Issue node seq id.now full)) }
 {
-    let number = node.get();
-    write!(text, "issue {number} {seq} ")?;
+    push_of(text, "issue ", node)?;
+    push_numbered(text, " ", u64::from(seq))?;
+    text.push(' ')?;
     push_id(alloc, text, reader, id)?;
     text.push(' ')?;
     push_fullness(text, full)
@@ -146,8 +139,9 @@ fn push_lie(
     ensures { OnOk result (string_bytes text.new ≡ string_bytes text.old ++ codes "lie " ++ decimal from ++ space
         ++ decimal to ++ space ++ lied_text reader.now.names lied.now) }
 {
-    let (one, other) = (from.get(), to.get());
-    write!(text, "lie {one} {other} ")?;
+    push_of(text, "lie ", from)?;
+    push_of(text, " ", to)?;
+    text.push(' ')?;
     push_lied(alloc, text, reader, lied)
 }
 
@@ -168,7 +162,7 @@ fn push_what(
             text.push(' ')?;
             push_tx(alloc, text, reader, tx)
         }
-        What::Deliver { place } => Ok(write!(text, "deliver {place}")?),
+        What::Deliver { place } => push_numbered(text, "deliver ", *place),
         What::All => Ok(text.push_str("all")?),
         What::Drop => Ok(text.push_str("drop")?),
         What::Greet { node, peer } => {
@@ -201,8 +195,9 @@ pub fn push_event(
     ensures { OnOk result (string_bytes text.new
         ≡ string_bytes text.old ++ event_line reader.now.names line event.now) }
 {
-    let at = event.at;
-    write!(text, "event {line} {at} ")?;
+    push_numbered(text, "event ", line)?;
+    push_numbered(text, " ", event.at)?;
+    text.push(' ')?;
     push_what(alloc, text, reader, &event.what)?;
     text.push('\n')?;
     Ok(())

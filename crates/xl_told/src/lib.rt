@@ -8,8 +8,13 @@
 
 mod bodies;
 mod events;
+mod hashed;
 mod words;
 
 pub use bodies::{push_body, push_said};
 pub use events::push_event;
-pub use words::{push_ids, push_list, push_proposal, push_validation};
+pub use hashed::Hashed;
+pub use words::{
+    push_ids, push_ledger, push_list, push_number, push_numbered, push_of, push_proposal,
+    push_validation,
+};

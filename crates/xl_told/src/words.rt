@@ -2,6 +2,7 @@
 ghost use Rattle.std.specs.Prelude.{◌≡◌, ◌++◌, ◌∷◌, codes, decimal, OnOk};
 ghost use Rattle.std.specs.List.{flat_map};
 ghost use Rattle.std.specs.String.{string_bytes};
+ghost use Rattle.xl_running.specs.Texts.{id_text, space};
 ghost use Rattle.xl_told.specs.Words.{
   fullness_text,
   ids_text,
@@ -14,13 +15,38 @@ ghost use Rattle.xl_told.specs.Words.{
   validation_text,
 };
 
+use itoa::Buffer;
 use std::alloc::Global;
-use std::fmt::Write;
-use xl_base::{LedgerId, NodeNo, OutOfMemory, SetId, TxId};
+use xl_base::{LedgerId, NodeNo, OutOfMemory, Seq, SetId, TxId};
 use xl_lists::List;
 use xl_running::push_id;
 use xl_sched::Reader;
 use xl_wire::{Proposal, Validation};
+
+/// A number, in decimal digits.
+// A formatter of std would take the text away and give it back.
+pub fn push_number(text: &mut String, number: u64) -> Result<(), OutOfMemory>
+    ensures { OnOk result (string_bytes text.new ≡ string_bytes text.old ++ decimal number) }
+{
+    let mut digits = Buffer::new();
+    text.push_str(digits.format(number))?;
+    Ok(())
+}
+
+/// A word and a number.
+pub fn push_numbered(text: &mut String, word: &str, number: u64) -> Result<(), OutOfMemory>
+    ensures { OnOk result (string_bytes text.new ≡ string_bytes text.old ++ word.now ++ decimal number) }
+{
+    text.push_str(word)?;
+    push_number(text, number)
+}
+
+/// A word and the number of a member.
+pub fn push_of(text: &mut String, word: &str, member: NodeNo) -> Result<(), OutOfMemory>
+    ensures { OnOk result (string_bytes text.new ≡ string_bytes text.old ++ word.now ++ decimal member) }
+{
+    push_numbered(text, word, u64::from(member.get()))
+}
 
 pub fn push_set_id(
     alloc: Global,
@@ -50,8 +76,7 @@ fn push_other_members(text: &mut String, others: &[NodeNo]) -> Result<(), OutOfM
         ≡ string_bytes text.old ++ flat_map (λ other. codes "," ++ decimal other) others.now) }
 {
     for other in others {
-        let number = other.get();
-        write!(text, ",{number}")?;
+        push_of(text, ",", *other)?;
     }
     Ok(())
 }
@@ -63,8 +88,7 @@ fn push_members(text: &mut String, members: &[NodeNo]) -> Result<(), OutOfMemory
     let Some((first, others)) = members.split_first() else {
         return Ok(());
     };
-    let number = first.get();
-    write!(text, "{number}")?;
+    push_number(text, u64::from(first.get()))?;
     push_other_members(text, others)
 }
 
@@ -72,8 +96,8 @@ fn push_members(text: &mut String, members: &[NodeNo]) -> Result<(), OutOfMemory
 pub fn push_list(text: &mut String, list: &List) -> Result<(), OutOfMemory>
     ensures { OnOk result (string_bytes text.new ≡ string_bytes text.old ++ list_text list.now) }
 {
-    let quorum = list.quorum();
-    write!(text, "{quorum} ")?;
+    push_number(text, u64::from(list.quorum()))?;
+    text.push(' ')?;
     push_members(text, list.members())
 }
 
@@ -141,6 +165,22 @@ fn push_validated(
     }
 }
 
+/// A ledger, by its sequence and its id.
+pub fn push_ledger(
+    alloc: Global,
+    text: &mut String,
+    reader: &Reader,
+    seq: Seq,
+    id: &LedgerId,
+) -> Result<(), OutOfMemory>
+    ensures { OnOk result (string_bytes text.new
+        ≡ string_bytes text.old ++ decimal seq ++ space ++ id_text reader.now.names id.now) }
+{
+    push_number(text, u64::from(seq))?;
+    text.push(' ')?;
+    push_id(alloc, text, reader, id)
+}
+
 pub fn push_validation(
     alloc: Global,
     text: &mut String,
@@ -150,10 +190,10 @@ pub fn push_validation(
     ensures { OnOk result (string_bytes text.new
         ≡ string_bytes text.old ++ validation_text reader.now.names validation.now) }
 {
-    let (seq, signed) = (validation.seq, validation.signed);
-    write!(text, "{seq} ")?;
-    push_id(alloc, text, reader, &validation.id)?;
-    write!(text, " {signed} ")?;
+    push_ledger(alloc, text, reader, validation.seq, &validation.id)?;
+    text.push(' ')?;
+    push_number(text, u64::from(validation.signed))?;
+    text.push(' ')?;
     push_fullness(text, validation.full)?;
     push_validated(alloc, text, reader, &validation.validated)
 }
@@ -170,7 +210,7 @@ pub fn push_proposal(
     push_id(alloc, text, reader, &proposal.prev)?;
     text.push(' ')?;
     push_set_id(alloc, text, reader, &proposal.set)?;
-    let (pseq, close, time) = (proposal.pseq, proposal.close, proposal.time);
-    write!(text, " {pseq} {close} {time}")?;
-    Ok(())
+    push_numbered(text, " ", u64::from(proposal.pseq))?;
+    push_numbered(text, " ", u64::from(proposal.close))?;
+    push_numbered(text, " ", u64::from(proposal.time))
 }

@@ -2,7 +2,7 @@ use Rattle.std.proofs.Common.{List, ◌∷◌, [], ◌++◌, take, ap, sym, ◌�
 use Rattle.std.proofs.lemmas.List.{take_more, take_all}
 use Rattle.std.proofs.lemmas.Option.{slice_get_within, get_or_from_slice_get}
 use Rattle.xl_base.specs.declared.ids.TxId.{TxId}
-use Rattle.xl_told.proofs.bodies.list_of.Goals as goal
+use Rattle.xl_told.proofs.hashed.list_of.Goals as goal
 
 pub loop-i-preserved : goal.loop-i-preserved
 loop-i-preserved c =
