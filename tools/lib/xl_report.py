@@ -111,7 +111,7 @@ FLAGS_FORMS = forms(
     'fee node=# seq=# value=#',
     'flags count=#',
 )
-AUDIT_FORMS = forms('yes count=#', 'no entry=#', 'bad line=# code=(?:48) token=#')
+AUDIT_FORMS = forms('yes count=#', 'yes count=# last=(?:cut)', 'no entry=#', 'bad line=# code=(?:48) token=#')
 JUDGED_FORMS = forms('journal number=# node=# yes count=#', 'journal number=# node=# no entry=#')
 KEYS_FORMS = forms('keys journal=# journal2=#')
 BLAMED_FORK_FORMS = forms(

@@ -1,12 +1,14 @@
 -- A text is never empty, so a fault leaves some of it unwritten.
-use Rattle.std.proofs.Common.{◌≡◌, ◌<◌, ◌++◌, ◌+◌, ℕ, List, length, length-append, arith, refl, Result, Ok, Err}
+use Rattle.std.proofs.Common.{◌≡◌, ◌<◌, ◌++◌, ◌+◌, ℕ, List, length, length-append, arith, refl, Result, Ok, Err, Option, Some, None}
 use Rattle.std.specs.Prelude.{codes, decimal}
 use Rattle.xl_lines.specs.Causes.{RefusesAloud, EndsAloud}
 use Rattle.xl_sched.specs.Refusals.{code_of, token_of}
 use Rattle.xl_sched.specs.Tokens.{shown_token}
 use Rattle.xl_audit.specs.declared.judging.BadLine.{BadLine}
 use Rattle.xl_audit.specs.declared.judging.BadLine.TheVariants.{Refused, Keyless}
-use Rattle.xl_audit.specs.Auditing.{Step, goes_on, wrong, refuses, line_step_of, bounded_step, beyond, bad_text, bad_line, newline, told_at_end, ended, rules}
+use Rattle.xl_audit.specs.Auditing.{goes_on, wrong, refuses, beyond, bad_text, bad_line, newline, ended}
+use Rattle.xl_audit.specs.Audits.{bounded_step, cut_line, line_step_of, rules, told_at_end, told_unless_cut}
+use Rattle.xl_audit.specs.Cuts.{Came, cut, whole}
 use Rattle.xl_audit.specs.Values.{space}
 
 -- a text that ends with a newline is not empty
@@ -20,18 +22,26 @@ bad_some : (n : ℕ) (why : BadLine) → 0 < length (bad_line n why)
 bad_some n (Refused why) = text_some n (code_of why) (token_of why)
 bad_some n (Keyless member) = text_some n 48 (decimal member)
 
-step_aloud : (n : ℕ) (s : Step) → RefusesAloud (line_step_of n s)
-step_aloud n (goes_on stage) = tt
-step_aloud n (wrong place) = line_some (codes "no " ++ decimal place)
-step_aloud n (refuses why) = bad_some (n + 1) why
+step_aloud : (n : ℕ) (before : Option ℕ) (c : Came) → RefusesAloud (line_step_of n before c)
+step_aloud n before (cut entries) = tt
+step_aloud n before (whole (goes_on stage)) = tt
+step_aloud n before (whole (wrong place)) = line_some (codes "no " ++ decimal place)
+step_aloud n before (whole (refuses why)) = bad_some (n + 1) why
 
 closing_some : (n : ℕ) (r : Result ℕ BadLine) → 0 < length (told_at_end n r).text
 closing_some n (Ok entries) = line_some (codes "yes " ++ decimal entries)
 closing_some n (Err why) = bad_some n why
 
+cut_some : (n : ℕ) → 0 < length (cut_line n)
+cut_some n = omega arith
+
+unless_some : (before : Option ℕ) (n : ℕ) (r : Result ℕ BadLine) → 0 < length (told_unless_cut before (told_at_end n r)).text
+unless_some (Some entries) n r = cut_some entries
+unless_some None n r = closing_some n r
+
 pub ends_aloud : EndsAloud rules
 ends_aloud = record {
-  step = λ a line _. step_aloud a.lines (bounded_step a line);
+  step = λ a line ended. step_aloud a.lines a.cut (bounded_step a line ended);
   overrun = λ a overrun. bad_some (a.lines + 1) (beyond overrun);
-  closing = λ a. closing_some (a.lines + 1) (ended a.stage);
+  closing = λ a. unless_some a.cut (a.lines + 1) (ended a.stage);
 }

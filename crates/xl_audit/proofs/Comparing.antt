@@ -1,9 +1,11 @@
 -- A reply that is told beside a given one.
-use Rattle.std.proofs.Common.{◌≡◌, ◌≢◌, ◌+◌, ◌-◌, ℕ, Bool, true, false, List, [], ◌++◌, length, take, drop, refl, sym, ap, ◌∙◌}
+use Rattle.std.proofs.Common.{◌≡◌, ◌≢◌, ◌+◌, ◌-◌, ◌==◌, ◌&&◌, not, ℕ, Bool, true, false, List, [], ◌∷◌, ◌++◌, length, take, drop, refl, sym, ap, ◌∙◌, arith}
 use Rattle.std.specs.Str.{bytes_eq}
 use Rattle.std.proofs.Math.Seq.{take-add}
+use Rattle.std.proofs.lemmas.Bool.{eq-eqb, eqb-true, ne_eqb}
 use Rattle.std.proofs.lemmas.List.{append-nil, append_cancel_left, take_rest}
 use Rattle.std.proofs.lemmas.Slice.Eq.{bytes_eq-Decides}
+use Rattle.xl_audit.specs.Cuts.{begins}
 
 same_tests : (a b : Bool) → (a ≡ true → b ≡ true) → (b ≡ true → a ≡ true) → a ≡ b
 same_tests true b to from = sym (to refl)
@@ -37,3 +39,52 @@ more_given given part rest same more none is =
     ∙ take-add same more given
     ∙ ap (λ (xs : List ℕ). take same given ++ xs) (ap (take more) (sym (take_rest given same)) ∙ is)
     ∙ ap (λ (xs : List ℕ). xs ++ part) (sym (append-nil (take same given)) ∙ ap (λ (xs : List ℕ). take same given ++ xs) (sym none))
+
+-- A BEGINNING
+
+same_front : (front rest behind : List ℕ) → begins rest behind ≡ begins (front ++ rest) (front ++ behind)
+same_front [] rest behind = refl
+same_front (a ∷ xs) rest behind =
+    same_front xs rest behind ∙ ap (λ (b : Bool). b && begins (xs ++ rest) (xs ++ behind)) (sym (eq-eqb a a refl))
+
+begins_some : (rest : List ℕ) → not (length rest == 0) ≡ begins [] rest
+begins_some [] = refl
+begins_some (b ∷ ys) = ap not (ne_eqb (length (b ∷ ys)) 0 (λ e. omega (arith, e)))
+
+pub goes_on : (front text rest : List ℕ) → text ≡ front ++ rest → not (length rest == 0) ≡ begins front text
+goes_on front text rest is =
+    begins_some rest ∙ same_front front [] rest ∙ ap (λ (zs : List ℕ). begins zs (front ++ rest)) (append-nil front)
+    ∙ ap (begins front) (sym is)
+
+-- a text that another doesn't begin with, at a byte behind which it may
+later : (a b : ℕ) (xs ys : List ℕ) → (a == b) ≡ true → ((rest : List ℕ) → b ∷ ys ≢ (a ∷ xs) ++ rest)
+    → (rest : List ℕ) → ys ≢ xs ++ rest
+later a b xs ys same other rest is =
+    other rest (ap (λ (zs : List ℕ). b ∷ zs) is ∙ ap (λ (n : ℕ). n ∷ (xs ++ rest)) (sym (eqb-true a b same)))
+
+pub goes_not_on : (front text : List ℕ) → ((rest : List ℕ) → text ≢ front ++ rest) → false ≡ begins front text
+goes_not_on [] text other = absurd (other text refl)
+goes_not_on (a ∷ xs) [] other = refl
+goes_not_on (a ∷ xs) (b ∷ ys) other =
+    elim (a == b) as (λ v. (a == b) ≡ v → false ≡ (v && begins xs ys)) [
+      | true ↦ λ e. goes_not_on xs ys (later a b xs ys e other)
+      | false ↦ λ e. refl
+    ] refl
+
+pub begins_behind : (text front rest behind : List ℕ) → text ≡ front ++ rest
+    → begins rest behind ≡ begins text (front ++ behind)
+begins_behind text front rest behind is =
+    same_front front rest behind ∙ ap (λ (zs : List ℕ). begins zs (front ++ behind)) (sym is)
+
+flipped : (a b : ℕ) → (a == b) ≡ true → (b == a) ≡ true
+flipped a b e = ap (λ (n : ℕ). n == a) (sym (eqb-true a b e)) ∙ eq-eqb a a refl
+
+pub begins_before : (text front behind : List ℕ) → ((rest : List ℕ) → text ≢ front ++ rest)
+    → begins text front ≡ begins text (front ++ behind)
+begins_before text [] behind other = absurd (other text refl)
+begins_before [] (f ∷ fs) behind other = refl
+begins_before (t ∷ ts) (f ∷ fs) behind other =
+    elim (t == f) as (λ v. (t == f) ≡ v → (v && begins ts fs) ≡ (v && begins ts (fs ++ behind))) [
+      | true ↦ λ e. begins_before ts fs behind (later f t fs ts (flipped t f e) other)
+      | false ↦ λ e. refl
+    ] refl

@@ -1,17 +1,19 @@
 -- What the auditor's yes and no say.
-use Rattle.std.proofs.Common.{◌≡◌, ◌==◌, ◌&&◌, ◌+◌, ◌-◌, ℕ, Bool, true, false, List, [], ◌∷◌, length, refl, sym, ap, ◌∙◌, subst, arith, Result, Ok, Err, Option, Some, None}
+use Rattle.std.proofs.Common.{◌≡◌, ◌==◌, ◌&&◌, ◌+◌, ◌-◌, ◌⊎◌, inl, inr, ℕ, Bool, true, false, List, [], ◌∷◌, length, refl, sym, ap, ◌∙◌, subst, arith, Result, Ok, Err, Option, Some, None}
 use Rattle.std.specs.Prelude.{◌↔◌, IfOk, IsTrue, is_some, nat_lt, codes, if◌then◌else◌}
 use Rattle.std.specs.Str.{bytes_eq}
 use Rattle.std.proofs.lemmas.Bool.{cond_both, cond-false, cond-true}
 use Rattle.std.proofs.lemmas.Slice.Eq.{bytes_eq-Decides}
 use Rattle.xl_core.specs.Core.{Core, core_asks}
 use Rattle.xl_lines.specs.declared.limits.Overrun.TheVariants as overrun
-use Rattle.xl_lines.specs.Lines.{Line, content}
+use Rattle.xl_lines.specs.Lines.{Line, content, lines_of, onto}
 use Rattle.xl_sched.specs.declared.refusal.SchedRefusal.{SchedRefusal}
 use Rattle.xl_sched.specs.declared.refusal.SchedRefusal.TheVariants.{Late}
 use Rattle.xl_store.specs.declared.entry.Saved.{Saved}
 use Rattle.xl_store.specs.declared.entry.Saved.TheVariants as saved
 use Rattle.xl_store.specs.Entries.{IsOutcome, reply_of}
+use Rattle.xl_audit.specs.declared.compared.Likeness.{Likeness}
+use Rattle.xl_audit.specs.declared.compared.Likeness.TheVariants as like
 use Rattle.xl_audit.specs.declared.judging.BadLine.TheVariants.{Refused}
 use Rattle.xl_audit.specs.declared.judging.Stage.{Stage}
 use Rattle.xl_audit.specs.declared.judging.Stage.TheVariants.{Judging}
@@ -20,12 +22,15 @@ use Rattle.xl_audit.specs.declared.written.Written.{Written}
 use Rattle.xl_lines.specs.declared.machine.Verdict.TheVariants.{Good, Found}
 use Rattle.xl_lines.specs.Rules.{Told, Step as LineStep, refuses as line_refuses}
 use Rattle.xl_lines.specs.Told.{told_by, told_from, step_at, step_within}
-use Rattle.xl_audit.specs.Auditing.{Step, Auditing, goes_on, wrong, refuses, line_step_of, beyond, judgement, entry_step, step, yes_line, no_line, limits, rules}
-use Rattle.xl_audit.specs.Reading.{entry_in}
+use Rattle.xl_audit.specs.Auditing.{Step, goes_on, wrong, refuses, beyond, judgement, entry_step, yes_line, no_line}
+use Rattle.xl_audit.specs.Audits.{Auditing, cut_line, limits, line_step_of, rules}
+use Rattle.xl_audit.specs.Cuts.{Came, cut, whole, begins, came_at, entry_behind, last_step, led_last, likeness_at}
+use Rattle.xl_audit.specs.Leading.{Lead, leads, entry_lead, read_lead}
+use Rattle.xl_audit.specs.Reading.{counted_relist, entry_in, entry_word, worded_entry}
 use Rattle.xl_audit.specs.Rights.{IsAsked, IsRight, is_right, reply_to, tells_of}
 use Rattle.xl_audit.specs.Saves.{IsCounted}
-use Rattle.xl_audit.specs.Verdicts.{AllRight, FirstWrong, YesIsRight, NoNamesTheFirst}
-use Rattle.xl_audit.specs.Words.{first, tokens}
+use Rattle.xl_audit.specs.Verdicts.{AllButACut, AllRight, AreLines, FirstWrong, IsNotWhole, YesIsRight, NoNamesTheFirst}
+use Rattle.xl_audit.specs.Words.{first, others, tokens}
 use Rattle.xl_audit.proofs.Fitting.{entry_fits, held}
 
 -- WHETHER AN ENTRY IS RIGHT
@@ -80,10 +85,45 @@ says_right (Ok right) core w counted is =
     (λ told. right_is core w counted (sym is ∙ told), λ told. is ∙ is_right_of core w told)
 says_right (Err why) core w counted is = tt
 
+-- AN ENTRY BESIDE THE RIGHT ONE
+
+likeness_same : (t s b : Bool) → (if t then (if s then like.Same else if b then like.Short else like.Other) else like.Other) ≡ like.Same
+    → (t && s) ≡ true
+likeness_same true true b e = refl
+likeness_same true false true e = absurd (cc)
+likeness_same true false false e = absurd (cc)
+likeness_same false s b e = absurd (cc)
+
+likeness_wrong : (t s b : Bool) → (t && s) ≡ true
+    → (if t then (if s then like.Same else if b then like.Short else like.Other) else like.Other) ≡ like.Same
+likeness_wrong true true b e = refl
+likeness_wrong true false b e = absurd (cc)
+likeness_wrong false s b e = absurd (cc)
+
+pub same_is_right : (core : Core) (w : Written) → likeness_at core w ≡ like.Same → is_right core w ≡ true
+same_is_right core w e =
+    likeness_same (tells_of (is_some (core_asks core w.entry.event)) w.entry.outcome) (bytes_eq w.reply (reply_to core w.entry))
+    (begins w.reply (reply_to core w.entry)) e
+
+right_is_same : (core : Core) (w : Written) → is_right core w ≡ true → likeness_at core w ≡ like.Same
+right_is_same core w e =
+    likeness_wrong (tells_of (is_some (core_asks core w.entry.event)) w.entry.outcome) (bytes_eq w.reply (reply_to core w.entry))
+    (begins w.reply (reply_to core w.entry)) e
+
+false_unless : (b : Bool) → (b ≡ true → ⊥) → b ≡ false
+false_unless true never = absurd (never refl)
+false_unless false never = refl
+
+pub short_is_wrong : (core : Core) (w : Written) → likeness_at core w ≡ like.Short → is_right core w ≡ false
+short_is_wrong core w e = false_unless (is_right core w) (λ right. let same = right_is_same core w right in cc)
+
+pub other_is_wrong : (core : Core) (w : Written) → likeness_at core w ≡ like.Other → is_right core w ≡ false
+other_is_wrong core w e = false_unless (is_right core w) (λ right. let same = right_is_same core w right in cc)
+
 -- LINE BY LINE
 
 abbrev pub behind : ℕ → Stage → Auditing
-behind n stage = record { lines = n; stage = stage }
+behind n stage = record { lines = n; stage = stage; cut = None }
 
 -- a return is kept, so a line is handed on as it stands
 kept : (line : Line) → content limits.returns line ≡ line.bytes
@@ -92,7 +132,8 @@ kept line = cond_both line.ended line.bytes line.bytes (λ (bytes : List ℕ). b
 -- a line within the limits is taken, whatever was read before it
 abbrev pub IsTaken : ℕ → ℕ → Line → Type 0
 IsTaken left n line =
-    (stage : Stage) → step_at limits rules left (behind n stage) line ≡ line_step_of n (step stage line.bytes)
+    (stage : Stage) →
+    step_at limits rules left (behind n stage) line ≡ line_step_of n None (came_at stage line.bytes line.ended)
 
 pub taken : (left n : ℕ) (line : Line) → nat_lt limits.bytes (length line.bytes) ≡ false → nat_lt 0 left ≡ true
     → nat_lt most_bytes (length (content limits.returns line)) ≡ false → (n == most_lines) ≡ false → IsTaken left n line
@@ -101,42 +142,50 @@ taken left n line short may within few stage =
     let bytes : List ℕ = content limits.returns line in
     cond-false (nat_lt limits.bytes (length line.bytes)) (line_refuses (rules.overrun a overrun.LongLine)) (step_within rules left a bytes line.ended) short
     ∙ cond-true (nat_lt 0 left) (rules.step a bytes line.ended) (line_refuses (rules.overrun a overrun.ManyLines)) may
-    ∙ ap (line_step_of n)
-    (cond-false (nat_lt most_bytes (length bytes)) (refuses (beyond overrun.LongLine)) (if n == most_lines then refuses (beyond overrun.ManyLines) else step stage bytes) within
-    ∙ cond-false (n == most_lines) (refuses (beyond overrun.ManyLines)) (step stage bytes) few
-    ∙ ap (step stage) (kept line))
+    ∙ ap (line_step_of n None)
+    (cond-false (nat_lt most_bytes (length bytes)) (whole (refuses (beyond overrun.LongLine))) (if n == most_lines then whole (refuses (beyond overrun.ManyLines)) else came_at stage bytes line.ended) within
+    ∙ cond-false (n == most_lines) (whole (refuses (beyond overrun.ManyLines))) (came_at stage bytes line.ended) few
+    ∙ ap (λ (b : List ℕ). came_at stage b line.ended) (kept line))
 
 -- a line is refused at a limit, or it is taken
 pub at_step : (P : LineStep Auditing → Type 0) (left n : ℕ) (stage : Stage) (line : Line)
     → ((text : List ℕ) → P (line_refuses text))
-    → (IsTaken left n line → P (line_step_of n (step stage line.bytes))) → P (step_at limits rules left (behind n stage) line)
+    → (IsTaken left n line → P (line_step_of n None (came_at stage line.bytes line.ended)))
+    → P (step_at limits rules left (behind n stage) line)
 at_step P left n stage line refused told =
     let a : Auditing = behind n stage in
     let bytes : List ℕ = content limits.returns line in
     cond_both (nat_lt limits.bytes (length line.bytes)) (line_refuses (rules.overrun a overrun.LongLine)) (step_within rules left a bytes line.ended) P (λ _. refused _)
     (λ short. cond_both (nat_lt 0 left) (rules.step a bytes line.ended) (line_refuses (rules.overrun a overrun.ManyLines)) P
-    (λ may. cond_both (nat_lt most_bytes (length bytes)) (refuses (beyond overrun.LongLine)) (if n == most_lines then refuses (beyond overrun.ManyLines) else step stage bytes) (λ (s : Step). P (line_step_of n s)) (λ _. refused _)
-    (λ within. cond_both (n == most_lines) (refuses (beyond overrun.ManyLines)) (step stage bytes) (λ (s : Step). P (line_step_of n s)) (λ _. refused _)
-    (λ few. subst (λ (b : List ℕ). P (line_step_of n (step stage b))) (sym (kept line)) (told (taken left n line short may within few)))))
+    (λ may. cond_both (nat_lt most_bytes (length bytes)) (whole (refuses (beyond overrun.LongLine))) (if n == most_lines then whole (refuses (beyond overrun.ManyLines)) else came_at stage bytes line.ended) (λ (c : Came). P (line_step_of n None c)) (λ _. refused _)
+    (λ within. cond_both (n == most_lines) (whole (refuses (beyond overrun.ManyLines))) (came_at stage bytes line.ended) (λ (c : Came). P (line_step_of n None c)) (λ _. refused _)
+    (λ few. subst (λ (b : List ℕ). P (line_step_of n None (came_at stage b line.ended))) (sym (kept line)) (told (taken left n line short may within few)))))
     (λ _. refused _))
 
 -- the line of an entry is refused, or its entry is judged
 at_line : (P : LineStep Auditing → Type 0) (left n entries : ℕ) (core : Core) (line : Line)
     → ((text : List ℕ) → P (line_refuses text))
-    → P (line_step_of n (judgement core entries (entry_in core.node.keys (tokens line.bytes))))
+    → P (line_step_of n None (whole (judgement core entries (entry_in core.node.keys (tokens line.bytes)))))
+    → (line.ended ≡ false → P (line_step_of n None (last_step (Judging core entries) line.bytes)))
     → P (step_at limits rules left (behind n (Judging core entries)) line)
-at_line P left n entries core line refused told =
-    at_step P left n (Judging core entries) line refused
-    (λ _. cond_both (bytes_eq (first (tokens line.bytes)) (codes "key")) (refuses (Refused (Late (first (tokens line.bytes)))))
-    (entry_step core entries (tokens line.bytes)) (λ (s : Step). P (line_step_of n s))
-    (λ _. refused _) (λ _. told))
+at_line P left n entries core line refused told last =
+    at_step P left n (Judging core entries) line refused (λ _. by line.ended refl)
+  where
+    by : (ended : Bool) → line.ended ≡ ended → P (line_step_of n None (came_at (Judging core entries) line.bytes ended))
+    by true e =
+        cond_both (bytes_eq (first (tokens line.bytes)) (codes "key")) (refuses (Refused (Late (first (tokens line.bytes)))))
+        (entry_step core entries (tokens line.bytes)) (λ (s : Step). P (line_step_of n None (whole s)))
+        (λ _. refused _) (λ _. told)
+    by false e = last e
 
 more : (entries : ℕ) (ws : List Written) (w : Written) → entries + 1 + length ws ≡ entries + length (w ∷ ws)
 more entries ws w = omega arith
 
 module _ (n entries : ℕ) (core : Core) (line : Line) (lines : List Line) (next : Auditing → Told) where
   abbrev IfYes : LineStep Auditing → Type 0
-  IfYes s = (told_by next s).verdict ≡ Good → AllRight core entries (line ∷ lines) (told_by next s).text
+  IfYes s =
+      (told_by next s).verdict ≡ Good →
+      AllRight core entries (line ∷ lines) (told_by next s).text ⊎ AllButACut core entries (line ∷ lines) (told_by next s).text
 
   abbrev IfNo : LineStep Auditing → Type 0
   IfNo s = (told_by next s).verdict ≡ Found → FirstWrong core entries (line ∷ lines) (told_by next s).text
@@ -153,28 +202,82 @@ module _ (n entries : ℕ) (core : Core) (line : Line) (lines : List Line) (next
   after_entry w = next (behind (n + 1) (Judging (reply_of core w.entry).core (entries + 1)))
 
   abbrev told_of_entry : Result Written SchedRefusal → LineStep Auditing
-  told_of_entry r = line_step_of n (judgement core entries r)
+  told_of_entry r = line_step_of n None (whole (judgement core entries r))
+
+  abbrev RestIsRight : Written → Type 0
+  RestIsRight w =
+      (after_entry w).verdict ≡ Good →
+      AllRight (reply_of core w.entry).core (entries + 1) lines (after_entry w).text
+      ⊎ AllButACut (reply_of core w.entry).core (entries + 1) lines (after_entry w).text
+
+  -- a right entry stands before the others
+  one_more_right : (w : Written) → entry_in core.node.keys (tokens line.bytes) ≡ Ok w → IsAsked core w → is_right core w ≡ true
+      → (text : List ℕ) → AllRight (reply_of core w.entry).core (entries + 1) lines text
+      ⊎ AllButACut (reply_of core w.entry).core (entries + 1) lines text
+      → AllRight core entries (line ∷ lines) text ⊎ AllButACut core entries (line ∷ lines) text
+  one_more_right w read asked right text (inl rest) = inl (record {
+    ws = w ∷ rest.ws;
+    tell = (read, right_is core w asked.counted right, rest.tell);
+    right = (asked.allowed, right_is core w asked.counted right, rest.right);
+    says = rest.says ∙ ap yes_line (more entries rest.ws w);
+  })
+  one_more_right w read asked right text (inr rest) = inr (record {
+    ws = w ∷ rest.ws;
+    front = line ∷ rest.front;
+    line = rest.line;
+    parts = ap (λ (ls : List Line). line ∷ ls) rest.parts;
+    tell = (read, right_is core w asked.counted right, rest.tell);
+    right = (asked.allowed, right_is core w asked.counted right, rest.right);
+    lacks = rest.lacks;
+    short = rest.short;
+    says = rest.says ∙ ap cut_line (more entries rest.ws w);
+  })
+
+  asked_of : (w : Written) → entry_in core.node.keys (tokens line.bytes) ≡ Ok w → IsAsked core w
+  asked_of w read = held (IsAsked core) (entry_in core.node.keys (tokens line.bytes)) w (entry_fits core (tokens line.bytes)) read
 
   judged_yes : (r : Result Written SchedRefusal) → entry_in core.node.keys (tokens line.bytes) ≡ r
-      → ((w : Written) → (after_entry w).verdict ≡ Good
-      → AllRight (reply_of core w.entry).core (entries + 1) lines (after_entry w).text)
-      → IfYes (told_of_entry r)
+      → ((w : Written) → RestIsRight w) → IfYes (told_of_entry r)
   unfolding told_by
   judged_yes (Err why) read later = λ e. absurd (cc)
   judged_yes (Ok w) read later =
-      let asked : IsAsked core w =
-      held (IsAsked core) (entry_in core.node.keys (tokens line.bytes)) w (entry_fits core (tokens line.bytes)) read in
       cond_both (is_right core w) (goes_on (Judging (reply_of core w.entry).core (entries + 1))) (wrong (entries + 1))
-      (λ (s : Step). IfYes (line_step_of n s))
-      (λ right e.
-      let rest = later w e in
-      record {
-        ws = w ∷ rest.ws;
-        tell = (read, right_is core w asked.counted right, rest.tell);
-        right = (asked.allowed, right_is core w asked.counted right, rest.right);
-        says = rest.says ∙ ap yes_line (more entries rest.ws w);
-      })
+      (λ (s : Step). IfYes (line_step_of n None (whole s)))
+      (λ right e. one_more_right w read (asked_of w read) right (after_entry w).text (later w e))
       (λ not_so e. absurd (cc))
+
+  one_more_wrong : (w : Written) → entry_in core.node.keys (tokens line.bytes) ≡ Ok w → IsAsked core w → is_right core w ≡ true
+      → (text : List ℕ) → FirstWrong (reply_of core w.entry).core (entries + 1) lines text
+      → FirstWrong core entries (line ∷ lines) text
+  one_more_wrong w read asked right text rest = record {
+    ws = w ∷ rest.ws;
+    front = line ∷ rest.front;
+    line = rest.line;
+    rest = rest.rest;
+    w = rest.w;
+    parts = ap (λ (ls : List Line). line ∷ ls) rest.parts;
+    tell = (read, right_is core w asked.counted right, rest.tell);
+    right = (asked.allowed, right_is core w asked.counted right, rest.right);
+    tells = rest.tells;
+    wrong = rest.wrong;
+    says = rest.says ∙ ap (λ (k : ℕ). no_line (k + 1)) (more entries rest.ws w);
+  }
+
+  first_wrong : (w : Written) → entry_in core.node.keys (tokens line.bytes) ≡ Ok w → is_right core w ≡ false
+      → FirstWrong core entries (line ∷ lines) (no_line (entries + 1))
+  first_wrong w read not_so = record {
+    ws = [];
+    front = [];
+    line = line;
+    rest = lines;
+    w = w;
+    parts = refl;
+    tell = tt;
+    right = tt;
+    tells = read;
+    wrong = not_right core w not_so;
+    says = ap (λ (k : ℕ). no_line (k + 1)) (omega arith);
+  }
 
   judged_no : (r : Result Written SchedRefusal) → entry_in core.node.keys (tokens line.bytes) ≡ r
       → ((w : Written) → (after_entry w).verdict ≡ Found
@@ -183,54 +286,130 @@ module _ (n entries : ℕ) (core : Core) (line : Line) (lines : List Line) (next
   unfolding told_by
   judged_no (Err why) read later = λ e. absurd (cc)
   judged_no (Ok w) read later =
-      let asked : IsAsked core w =
-      held (IsAsked core) (entry_in core.node.keys (tokens line.bytes)) w (entry_fits core (tokens line.bytes)) read in
       cond_both (is_right core w) (goes_on (Judging (reply_of core w.entry).core (entries + 1))) (wrong (entries + 1))
-      (λ (s : Step). IfNo (line_step_of n s))
-      (λ right e.
-      let rest = later w e in
-      record {
-        ws = w ∷ rest.ws;
-        front = line ∷ rest.front;
-        line = rest.line;
-        rest = rest.rest;
-        w = rest.w;
-        parts = ap (λ (ls : List Line). line ∷ ls) rest.parts;
-        tell = (read, right_is core w asked.counted right, rest.tell);
-        right = (asked.allowed, right_is core w asked.counted right, rest.right);
-        tells = rest.tells;
-        wrong = rest.wrong;
-        says = rest.says ∙ ap (λ (k : ℕ). no_line (k + 1)) (more entries rest.ws w);
-      })
-      (λ not_so e. record {
-        ws = [];
-        front = [];
-        line = line;
-        rest = lines;
-        w = w;
-        parts = refl;
-        tell = tt;
-        right = tt;
-        tells = read;
-        wrong = not_right core w not_so;
-        says = ap (λ (k : ℕ). no_line (k + 1)) (omega arith);
-      })
+      (λ (s : Step). IfNo (line_step_of n None (whole s)))
+      (λ right e. one_more_wrong w read (asked_of w read) right (after_entry w).text (later w e))
+      (λ not_so e. first_wrong w read not_so)
+
+-- THE LAST LINE
+
+key_is_no_entry : (core : Core) (words : List (List ℕ)) → bytes_eq (first words) (codes "key") ≡ true
+    → IsNotWhole core (entry_in core.node.keys words)
+key_is_no_entry core words is =
+    subst (λ (token : List ℕ). IsNotWhole core (if bytes_eq token (codes "relist") then counted_relist (others words) else worded_entry core.node.keys (entry_word token) words))
+    (sym ((bytes_eq-Decides (first words) (codes "key")).0 is)) tt
+
+-- a last line that lacks its newline is cut short, or its entry is judged
+module _ (P : Came → Type 0) (entries : ℕ) (core : Core) (line : Line) where
+  abbrev words : List (List ℕ)
+  words = tokens line.bytes
+
+  last_led : ((IsNotWhole core (entry_in core.node.keys words)) → P (cut entries))
+      → ((w : Written) → entry_in core.node.keys words ≡ Ok w → is_right core w ≡ true
+      → P (whole (goes_on (Judging (reply_of core w.entry).core (entries + 1)))))
+      → ((w : Written) → entry_in core.node.keys words ≡ Ok w → is_right core w ≡ false → P (whole (wrong (entries + 1))))
+      → P (last_step (Judging core entries) line.bytes)
+  last_led is_cut is_same is_other =
+      cond_both (bytes_eq (first words) (codes "key")) (leads (refuses (Refused (Late (first words)))))
+      (entry_lead core entries words) (λ (l : Lead). P (led_last (Ok entries) l))
+      (λ key. is_cut (key_is_no_entry core words key)) (λ _. by_read (entry_in core.node.keys words) refl)
+    where
+      by_likeness : (w : Written) → entry_in core.node.keys words ≡ Ok w → (l : Likeness) → likeness_at core w ≡ l
+          → P (entry_behind core entries w l)
+      by_likeness w read like.Same e = is_same w read (same_is_right core w e)
+      by_likeness w read like.Short e = is_cut (subst (IsNotWhole core) (sym read) e)
+      by_likeness w read like.Other e = is_other w read (other_is_wrong core w e)
+
+      by_read : (r : Result Written SchedRefusal) → entry_in core.node.keys words ≡ r
+          → P (led_last (Ok entries) (read_lead (Judging core entries) r))
+      by_read (Err why) read = is_cut (subst (IsNotWhole core) (sym read) tt)
+      by_read (Ok w) read = by_likeness w read (likeness_at core w) refl
+
+no_more : (line : Line) (lines : List Line) → AreLines (line ∷ lines) → line.ended ≡ false → lines ≡ []
+no_more line [] are lacks = refl
+no_more line (next ∷ lines) are lacks = absurd (let no : true ≡ false = sym are.0 ∙ lacks in cc)
+
+pub others_are : (line : Line) (lines : List Line) → AreLines (line ∷ lines) → AreLines lines
+others_are line [] are = tt
+others_are line (next ∷ lines) are = are.1
+
+last_yes : (n entries : ℕ) (core : Core) (line : Line) (next : Auditing → Told) → line.ended ≡ false
+    → ((a : Auditing) → next a ≡ rules.closing a)
+    → ((w : Written) → RestIsRight n entries core line [] next w)
+    → IfYes n entries core line [] next (line_step_of n None (last_step (Judging core entries) line.bytes))
+unfolding told_by
+last_yes n entries core line next lacks closing later =
+    last_led (λ (c : Came). IfYes n entries core line [] next (line_step_of n None c)) entries core line
+    (λ short e. inr (record {
+      ws = [];
+      front = [];
+      line = line;
+      parts = refl;
+      tell = tt;
+      right = tt;
+      lacks = lacks;
+      short = short;
+      says = ap (λ (t : Told). t.text) (closing _) ∙ ap cut_line (omega arith);
+    }))
+    (λ w read right e. one_more_right n entries core line [] next w read (asked_of n entries core line [] next w read) right _ (later w e))
+    (λ w read not_so e. absurd (cc))
+
+last_no : (n entries : ℕ) (core : Core) (line : Line) (next : Auditing → Told)
+    → ((a : Auditing) → next a ≡ rules.closing a)
+    → ((w : Written) → (next (behind (n + 1) (Judging (reply_of core w.entry).core (entries + 1)))).verdict ≡ Found
+    → FirstWrong (reply_of core w.entry).core (entries + 1) [] (next (behind (n + 1) (Judging (reply_of core w.entry).core (entries + 1)))).text)
+    → IfNo n entries core line [] next (line_step_of n None (last_step (Judging core entries) line.bytes))
+unfolding told_by
+last_no n entries core line next closing later =
+    last_led (λ (c : Came). IfNo n entries core line [] next (line_step_of n None c)) entries core line
+    (λ short e. absurd (let no : Good ≡ Found = sym (ap (λ (t : Told). t.verdict) (closing _)) ∙ e in cc))
+    (λ w read right e. one_more_wrong n entries core line [] next w read (asked_of n entries core line [] next w read) right _ (later w e))
+    (λ w read not_so e. first_wrong n entries core line [] next w read not_so)
+
+none_left : (n entries : ℕ) (core : Core) → (rules.closing (behind n (Judging core entries))).verdict ≡ Good
+    → AllRight core entries [] (rules.closing (behind n (Judging core entries))).text
+    ⊎ AllButACut core entries [] (rules.closing (behind n (Judging core entries))).text
+none_left n entries core e = inl (record { ws = []; tell = tt; right = tt; says = ap yes_line (omega arith) })
 
 pub yes_is_right : YesIsRight
-yes_is_right left n entries core [] = λ e.
-    record { ws = []; tell = tt; right = tt; says = ap yes_line (omega arith) }
-yes_is_right left n entries core (line ∷ lines) =
+yes_is_right left n entries core [] are = none_left n entries core
+yes_is_right left n entries core (line ∷ lines) are =
     let next : Auditing → Told = λ a. told_from limits rules (left - 1) a lines in
     at_line (IfYes n entries core line lines next) left n entries core line
     (refused_yes n entries core line lines next)
     (judged_yes n entries core line lines next (entry_in core.node.keys (tokens line.bytes)) refl
-    (λ w. yes_is_right (left - 1) (n + 1) (entries + 1) (reply_of core w.entry).core lines))
+    (λ w. yes_is_right (left - 1) (n + 1) (entries + 1) (reply_of core w.entry).core lines (others_are line lines are)))
+    (λ lacks. subst (λ (ls : List Line). IfYes n entries core line ls (λ a. told_from limits rules (left - 1) a ls) (line_step_of n None (last_step (Judging core entries) line.bytes)))
+    (sym (no_more line lines are lacks))
+    (last_yes n entries core line (λ a. told_from limits rules (left - 1) a []) lacks (λ a. refl)
+    (λ w. none_left (n + 1) (entries + 1) (reply_of core w.entry).core)))
 
 pub no_names_the_first : NoNamesTheFirst
-no_names_the_first left n entries core [] = λ e. absurd (cc)
-no_names_the_first left n entries core (line ∷ lines) =
+no_names_the_first left n entries core [] are = λ e. absurd (cc)
+no_names_the_first left n entries core (line ∷ lines) are =
     let next : Auditing → Told = λ a. told_from limits rules (left - 1) a lines in
     at_line (IfNo n entries core line lines next) left n entries core line
     (refused_no n entries core line lines next)
     (judged_no n entries core line lines next (entry_in core.node.keys (tokens line.bytes)) refl
-    (λ w. no_names_the_first (left - 1) (n + 1) (entries + 1) (reply_of core w.entry).core lines))
+    (λ w. no_names_the_first (left - 1) (n + 1) (entries + 1) (reply_of core w.entry).core lines (others_are line lines are)))
+    (λ lacks. subst (λ (ls : List Line). IfNo n entries core line ls (λ a. told_from limits rules (left - 1) a ls) (line_step_of n None (last_step (Judging core entries) line.bytes)))
+    (sym (no_more line lines are lacks))
+    (last_no n entries core line (λ a. told_from limits rules (left - 1) a []) (λ a. refl)
+    (λ w e. absurd (cc))))
+
+-- THE LINES OF A TEXT
+
+ended_then : (lines : List Line) → AreLines lines → AreLines (record { bytes = []; ended = true } ∷ lines)
+ended_then [] are = tt
+ended_then (line ∷ lines) are = (refl, are)
+
+onto_are : (byte : ℕ) (lines : List Line) → AreLines lines → AreLines (onto byte lines)
+onto_are byte [] are = tt
+onto_are byte (line ∷ []) are = tt
+onto_are byte (line ∷ next ∷ lines) are = are
+
+pub are_lines : (bytes : List ℕ) → AreLines (lines_of bytes)
+are_lines [] = tt
+are_lines (byte ∷ bytes) =
+    cond_both (byte == 10) (record { bytes = []; ended = true } ∷ lines_of bytes) (onto byte (lines_of bytes)) AreLines
+    (λ _. ended_then (lines_of bytes) (are_lines bytes)) (λ _. onto_are byte (lines_of bytes) (are_lines bytes))

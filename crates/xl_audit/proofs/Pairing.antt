@@ -1,11 +1,11 @@
 -- Digits, pair after pair.
-use Rattle.std.proofs.Common.{◌≡◌, ℕ, ◌+◌, ◌*◌, ◌/◌, ◌%◌, ◌<◌, ◌≤◌, ◌==◌, ◌&&◌, Bool, true, List, [], ◌∷◌, ◌++◌, length, take, drop, slice_index, Ok, refl, sym, ap, ap₂, ◌∙◌, arith}
+use Rattle.std.proofs.Common.{◌≡◌, ℕ, ◌+◌, ◌*◌, ◌/◌, ◌%◌, ◌<◌, ◌≤◌, ◌==◌, ◌&&◌, Bool, true, List, [], ◌∷◌, ◌++◌, length, take, drop, slice_index, Ok, sym, ap, ap₂, ◌∙◌, arith}
 use Rattle.std.specs.List.{list_all, slice_set}
 use Rattle.std.proofs.lemmas.Bool.{and_parts}
 use Rattle.std.proofs.lemmas.Bool.Decides.{nat_tests}
 use Rattle.std.proofs.lemmas.List.{append_assoc, append-nil, drop_all, take_more}
 use Rattle.hex.specs.Hex.{decode_pairs, encode_lower, encode_with, lower_digits, pair_value}
-use Rattle.hex.proofs.Pairs.{decode_done, decode_start, decode_step, drop-pair, encode_with-drop, prepend}
+use Rattle.hex.proofs.Pairs.{decode_done, decode_step, drop-pair, encode_with-drop, prepend}
 use Rattle.xl_audit.specs.Tokens.{is_lower_digit}
 
 -- WHAT DIGITS STAND FOR

@@ -1,5 +1,5 @@
 -- What is made of one number after another, up to 64.
-use Rattle.std.proofs.Common.{◌≡◌, ◌++◌, ◌+◌, ◌-◌, ◌<◌, ◌≤◌, ◌∙◌, ℕ, suc, Bool, true, false, cond, List, ◌∷◌, Some, None, ap, append-nil, append_assoc, arith, inl, inr, subst, sym}
+use Rattle.std.proofs.Common.{◌≡◌, ◌++◌, ◌+◌, ◌-◌, ◌<◌, ◌≤◌, ◌∙◌, ℕ, suc, Bool, true, false, cond, List, ◌∷◌, Some, ap, append_assoc, arith, inl, inr, subst, sym}
 use Rattle.std.specs.Prelude.{find}
 use Rattle.std.specs.List.{flat_map, range_with_len}
 use Rattle.std.proofs.lemmas.Bool.{cases_lt}

@@ -26,7 +26,9 @@ use Rattle.xl_audit.specs.declared.judging.Stage.TheVariants.{Heading, Setting, 
 use Rattle.xl_audit.specs.Limits.{most_bytes, most_lines}
 use Rattle.xl_audit.specs.declared.opening.Opening.{Opening}
 use Rattle.xl_audit.specs.declared.written.Written.{Written}
-use Rattle.xl_audit.specs.Auditing.{goes_on, wrong, refuses, line_step_of, judgement, entry_step, opening_step, keyed, set, unless_keyless, ended, told_at_end, step, yes_line, limits, rules, audit_of}
+use Rattle.xl_audit.specs.Auditing.{Step, goes_on, wrong, refuses, judgement, entry_step, opening_step, keyed, set, unless_keyless, ended, step, yes_line}
+use Rattle.xl_audit.specs.Audits.{audit_of, limits, line_step_of, rules, told_at_end}
+use Rattle.xl_audit.specs.Cuts.{whole}
 use Rattle.xl_audit.specs.Journals.{entries_text, head_text, journal_text, key_lines, key_text, settings_line, start_of}
 use Rattle.xl_audit.specs.Laws.{written_with}
 use Rattle.xl_audit.specs.Opening.{core_of, is_unmet, key_in, unmet}
@@ -76,7 +78,7 @@ one_line told stage next text rest plain leads at =
           ∙ ap (told_by (λ a. told_from limits rules (at.left - 1) a (lines_of rest)))
           (taken at.left at.n line (le-ltb most_bytes (length text) short) (lt-ltb 0 at.left (omega (arith, at.few, long)))
           (le-ltb most_bytes (length text) short) (fewer at.n (omega (arith, at.within, long))) stage
-          ∙ ap (line_step_of at.n) leads);
+          ∙ ap (λ (s : Step). line_step_of at.n None (whole s)) leads);
       few = omega (arith, at.few, long);
       within = omega (arith, at.within, long);
       short = All-tail (λ l. length l.bytes ≤ most_bytes) line (lines_of rest) all;

@@ -1,8 +1,8 @@
 -- A text in which no line is refused is judged by its entries.
-use Rattle.std.proofs.Common.{◌≡◌, ◌≢◌, ◌+◌, ◌-◌, ℕ, true, false, List, [], ◌∷◌, ◌++◌, refl, sym, ap, ◌∙◌, subst, Result, Ok, Err, Option, Some, None}
-use Rattle.std.specs.Prelude.{codes}
+use Rattle.std.proofs.Common.{◌≡◌, ◌≢◌, ◌+◌, ◌-◌, ℕ, true, false, List, [], ◌∷◌, ◌++◌, refl, sym, ap, ◌∙◌, subst, Bool, ◌⊎◌, Result, Ok, Err, Option, Some, None}
+use Rattle.std.specs.Prelude.{codes, if◌then◌else◌}
 use Rattle.std.specs.Str.{bytes_eq}
-use Rattle.std.proofs.lemmas.Bool.{cond_both, cond-false}
+use Rattle.std.proofs.lemmas.Bool.{cond_both, cond-false, cond-true}
 use Rattle.std.proofs.lemmas.Slice.Eq.{bytes_eq-Decides}
 use Rattle.xl_tags.specs.Rings.{Ring, no_keys}
 use Rattle.xl_core.specs.Core.{Core}
@@ -11,17 +11,21 @@ use Rattle.xl_lines.specs.Lines.{Line, lines_of}
 use Rattle.xl_lines.specs.Rules.{Told, Step as LineStep, refuses as line_refuses}
 use Rattle.xl_lines.specs.Told.{told_by, told_from}
 use Rattle.xl_sched.specs.declared.refusal.SchedRefusal.{SchedRefusal}
-use Rattle.xl_sched.specs.declared.refusal.SchedRefusal.TheVariants.{Header, Late}
+use Rattle.xl_sched.specs.declared.refusal.SchedRefusal.TheVariants.{Header, Late, Word}
+use Rattle.xl_audit.specs.declared.judging.BadLine.{BadLine}
 use Rattle.xl_audit.specs.declared.judging.BadLine.TheVariants.{Refused}
 use Rattle.xl_audit.specs.declared.judging.Stage.TheVariants.{Heading, Setting, Keying, Judging}
 use Rattle.xl_audit.specs.Limits.{most_lines}
 use Rattle.xl_audit.specs.declared.opening.Opening.{Opening}
-use Rattle.xl_audit.specs.Auditing.{Step, Auditing, goes_on, refuses, line_step_of, set, keyed, opening_step, entry_step, unless_keyless, told_at_end, audit_of, limits, rules}
+use Rattle.xl_audit.specs.Auditing.{Step, goes_on, wrong, refuses, heading_step, set, keyed, opening_step, entry_step, unless_keyless}
+use Rattle.xl_audit.specs.Audits.{Auditing, audit_of, limits, line_step_of, rules, told_at_end}
+use Rattle.xl_audit.specs.Cuts.{Came, cut, whole, came_at, led_last}
+use Rattle.xl_audit.specs.Leading.{leads, entry_lead, opening_lead}
 use Rattle.xl_audit.specs.Opening.{core_of, key_in, opening_in, unmet}
 use Rattle.xl_audit.specs.Texts.{TellKeys, IsJudged, TextIsJudged, YesOfTheText, NoOfTheText}
-use Rattle.xl_audit.specs.Verdicts.{AllRight, FirstWrong, told_behind}
+use Rattle.xl_audit.specs.Verdicts.{AllButACut, AllRight, AreLines, FirstWrong, told_behind}
 use Rattle.xl_audit.specs.Words.{first, tokens}
-use Rattle.xl_audit.proofs.Judged.{behind, IsTaken, at_step, yes_is_right, no_names_the_first}
+use Rattle.xl_audit.proofs.Judged.{are_lines, behind, IsTaken, at_step, no_names_the_first, others_are, yes_is_right}
 
 -- lines behind the settings, keys first
 record AreKeyed (opening : Opening) (ring : Ring) (lines : List Line) (told : Told) : Type 0 where
@@ -31,6 +35,7 @@ record AreKeyed (opening : Opening) (ring : Ring) (lines : List Line) (told : To
   parts : lines ≡ keys ++ entries
   tell : TellKeys ring keys last
   met : unmet last opening.list.members ≡ None
+  are : AreLines entries
   left : ℕ
   n : ℕ
   says : told ≡ told_behind left n 0 (core_of opening last) entries
@@ -48,74 +53,125 @@ keys_end left n opening ring None is good = record {
   parts = refl;
   tell = refl;
   met = is;
+  are = tt;
   left = left;
   n = n;
   says = refl;
 }
 
-module _ (left n : ℕ) (opening : Opening) (ring : Ring) (line : Line) (lines : List Line) where
+-- what stands before the entries is never cut short
+leads_whole : (early : BadLine) (s : Step) → led_last (Err early) (leads s) ≡ whole s
+leads_whole early (goes_on stage) = refl
+leads_whole early (wrong place) = refl
+leads_whole early (refuses why) = refl
+
+heading_whole : (line : List ℕ) (ended : Bool) → came_at Heading line ended ≡ whole (heading_step line)
+heading_whole line true = refl
+heading_whole line false = leads_whole (Refused (Header [])) (heading_step line)
+
+setting_whole : (line : List ℕ) (ended : Bool) → came_at Setting line ended ≡ whole (set (opening_in (tokens line)))
+setting_whole line true = refl
+setting_whole line false = leads_whole (Refused (Word [])) (set (opening_in (tokens line)))
+
+module _ (left n : ℕ) (opening : Opening) (ring : Ring) (line : Line) (lines : List Line) (are : AreLines (line ∷ lines)) where
   abbrev next : Auditing → Told
   next a = told_from limits rules (left - 1) a lines
 
   abbrev P : LineStep Auditing → Type 0
   P s = (told_by next s).verdict ≢ IsRefused → AreKeyed opening ring (line ∷ lines) (told_by next s)
 
+  abbrev words : List (List ℕ)
+  words = tokens line.bytes
+
+  abbrev is_key : Bool
+  is_key = bytes_eq (first words) (codes "key")
+
+  abbrev core : Core
+  core = core_of opening ring
+
+  abbrev Later : Type 0
+  Later =
+      (more : Ring) → (next (behind (n + 1) (Keying opening more))).verdict ≢ IsRefused
+      → AreKeyed opening more lines (next (behind (n + 1) (Keying opening more)))
+
   refused : (text : List ℕ) → P (line_refuses text)
   unfolding told_by
   refused text good = absurd (good refl)
 
   -- one more key
-  one_key : (r : Result Ring SchedRefusal) → key_in ring (tokens line.bytes) ≡ r → first (tokens line.bytes) ≡ codes "key"
-      → ((more : Ring) → (next (behind (n + 1) (Keying opening more))).verdict ≢ IsRefused
-      → AreKeyed opening more lines (next (behind (n + 1) (Keying opening more))))
-      → P (line_step_of n (keyed opening r))
+  one_key : (more : Ring) → key_in ring words ≡ Ok more → is_key ≡ true → Later
+      → P (line_step_of n None (whole (goes_on (Keying opening more))))
   unfolding told_by
-  one_key (Err why) read word later good = absurd (good refl)
-  one_key (Ok more) read word later good =
+  one_key more read word later good =
       let rest = later more good in
       record {
         keys = line ∷ rest.keys;
         entries = rest.entries;
         last = rest.last;
         parts = ap (λ (ls : List Line). line ∷ ls) rest.parts;
-        tell = (more, word, read, rest.tell);
+        tell = (more, (bytes_eq-Decides (first words) (codes "key")).0 word, read, rest.tell);
         met = rest.met;
+        are = rest.are;
         left = rest.left;
         n = rest.n;
         says = rest.says;
       }
 
-  -- the first entry
-  first_entry : (found : Option ℕ) → unmet ring opening.list.members ≡ found → bytes_eq (first (tokens line.bytes)) (codes "key") ≡ false
-      → IsTaken left n line → P (line_step_of n (opening_step opening ring found (tokens line.bytes)))
-  first_entry (Some member) is word taken = refused _
-  first_entry None is word taken = λ good.
-      let core : Core = core_of opening ring in
-      record {
-        keys = [];
-        entries = line ∷ lines;
-        last = ring;
-        parts = refl;
-        tell = refl;
-        met = is;
-        left = left;
-        n = n;
-        says = ap (told_by next) (sym (taken (Judging core 0)
-            ∙ ap (line_step_of n) (cond-false (bytes_eq (first (tokens line.bytes)) (codes "key")) (refuses (Refused (Late (first (tokens line.bytes))))) (entry_step core 0 (tokens line.bytes)) word)));
-      }
+  -- the line is the first of the entries
+  first_entry : unmet ring opening.list.members ≡ None → IsTaken left n line → (came : Came)
+      → came ≡ came_at (Judging core 0) line.bytes line.ended → P (line_step_of n None came)
+  first_entry met taken came is good = record {
+    keys = [];
+    entries = line ∷ lines;
+    last = ring;
+    parts = refl;
+    tell = refl;
+    met = met;
+    are = are;
+    left = left;
+    n = n;
+    says = ap (told_by next) (ap (line_step_of n None) is ∙ sym (taken (Judging core 0)));
+  }
 
-keying : (left n : ℕ) (opening : Opening) (ring : Ring) (lines : List Line)
+  -- a line with its newline
+  by_ended : Later → IsTaken left n line → line.ended ≡ true → (found : Option ℕ) → unmet ring opening.list.members ≡ found
+      → (b : Bool) → is_key ≡ b → (r : Result Ring SchedRefusal) → key_in ring words ≡ r
+      → P (line_step_of n None (whole (if b then keyed opening r else opening_step opening ring found words)))
+  by_ended later taken has found met true key (Ok more) read = one_key more read key later
+  by_ended later taken has found met true key (Err why) read = refused _
+  by_ended later taken has (Some member) met false key r read = refused _
+  by_ended later taken has None met false key r read =
+      first_entry met taken (whole (opening_step opening ring None words))
+      (sym (ap (came_at (Judging core 0) line.bytes) has
+      ∙ ap whole (cond-false is_key (refuses (Refused (Late (first words)))) (entry_step core 0 words) key)))
+
+  -- a line that lacks it
+  by_last : Later → IsTaken left n line → line.ended ≡ false → (found : Option ℕ) → unmet ring opening.list.members ≡ found
+      → (b : Bool) → is_key ≡ b → (r : Result Ring SchedRefusal) → key_in ring words ≡ r
+      → P (line_step_of n None (led_last (unless_keyless found) (if b then leads (keyed opening r) else opening_lead opening ring found words)))
+  by_last later taken lacks found met true key (Ok more) read = one_key more read key later
+  by_last later taken lacks (Some member) met true key (Err why) read = refused _
+  by_last later taken lacks None met true key (Err why) read =
+      first_entry met taken (cut 0) (sym (ap (came_at (Judging core 0) line.bytes) lacks
+      ∙ ap (led_last (Ok 0)) (cond-true is_key (leads (refuses (Refused (Late (first words))))) (entry_lead core 0 words) key)))
+  by_last later taken lacks (Some member) met false key r read = refused _
+  by_last later taken lacks None met false key r read =
+      first_entry met taken (led_last (Ok 0) (entry_lead core 0 words)) (sym (ap (came_at (Judging core 0) line.bytes) lacks
+      ∙ ap (led_last (Ok 0)) (cond-false is_key (leads (refuses (Refused (Late (first words))))) (entry_lead core 0 words) key)))
+
+  by_line : Later → IsTaken left n line → (ended : Bool) → line.ended ≡ ended
+      → P (line_step_of n None (came_at (Keying opening ring) line.bytes ended))
+  by_line later taken true has = by_ended later taken has (unmet ring opening.list.members) refl is_key refl (key_in ring words) refl
+  by_line later taken false lacks = by_last later taken lacks (unmet ring opening.list.members) refl is_key refl (key_in ring words) refl
+
+keying : (left n : ℕ) (opening : Opening) (ring : Ring) (lines : List Line) → AreLines lines
     → (told_from limits rules left (behind n (Keying opening ring)) lines).verdict ≢ IsRefused
     → AreKeyed opening ring lines (told_from limits rules left (behind n (Keying opening ring)) lines)
-keying left n opening ring [] = keys_end left n opening ring (unmet ring opening.list.members) refl
-keying left n opening ring (line ∷ lines) =
-    at_step (P left n opening ring line lines) left n (Keying opening ring) line (refused left n opening ring line lines)
-    (λ taken. cond_both (bytes_eq (first (tokens line.bytes)) (codes "key")) (keyed opening (key_in ring (tokens line.bytes)))
-    (opening_step opening ring (unmet ring opening.list.members) (tokens line.bytes)) (λ (s : Step). P left n opening ring line lines (line_step_of n s))
-    (λ word. one_key left n opening ring line lines (key_in ring (tokens line.bytes)) refl
-    ((bytes_eq-Decides (first (tokens line.bytes)) (codes "key")).0 word)
-    (λ more. keying (left - 1) (n + 1) opening more lines))
-    (λ word. first_entry left n opening ring line lines (unmet ring opening.list.members) refl word taken))
+keying left n opening ring [] are = keys_end left n opening ring (unmet ring opening.list.members) refl
+keying left n opening ring (line ∷ lines) are =
+    at_step (P left n opening ring line lines are) left n (Keying opening ring) line (refused left n opening ring line lines are)
+    (λ taken. by_line left n opening ring line lines are
+    (λ more. keying (left - 1) (n + 1) opening more lines (others_are line lines are)) taken line.ended refl)
 
 -- THE SETTINGS
 
@@ -127,12 +183,13 @@ record IsSet (lines : List Line) (told : Told) : Type 0 where
   opens : opening_in (tokens setting.bytes) ≡ Ok opening
   keyed : AreKeyed opening (no_keys opening.me) rest told
 
-setting : (left n : ℕ) (lines : List Line) → (told_from limits rules left (behind n Setting) lines).verdict ≢ IsRefused
+setting : (left n : ℕ) (lines : List Line) → AreLines lines → (told_from limits rules left (behind n Setting) lines).verdict ≢ IsRefused
     → IsSet lines (told_from limits rules left (behind n Setting) lines)
 unfolding told_by
-setting left n [] = λ good. absurd (good refl)
-setting left n (line ∷ lines) =
-    at_step Q left n Setting line no (λ _. by_opening (opening_in (tokens line.bytes)) refl)
+setting left n [] are = λ good. absurd (good refl)
+setting left n (line ∷ lines) are =
+    at_step Q left n Setting line no
+    (λ _. subst (λ (c : Came). Q (line_step_of n None c)) (sym (setting_whole line.bytes line.ended)) (by_opening (opening_in (tokens line.bytes)) refl))
   where
     after : Auditing → Told
     after a = told_from limits rules (left - 1) a lines
@@ -143,7 +200,7 @@ setting left n (line ∷ lines) =
     no : (text : List ℕ) → Q (line_refuses text)
     no text good = absurd (good refl)
 
-    by_opening : (r : Result Opening SchedRefusal) → opening_in (tokens line.bytes) ≡ r → Q (line_step_of n (set r))
+    by_opening : (r : Result Opening SchedRefusal) → opening_in (tokens line.bytes) ≡ r → Q (line_step_of n None (whole (set r)))
     by_opening (Err why) read good = absurd (good refl)
     by_opening (Ok opening) read good = record {
       setting = line;
@@ -151,19 +208,20 @@ setting left n (line ∷ lines) =
       opening = opening;
       parts = refl;
       opens = read;
-      keyed = keying (left - 1) (n + 1) opening (no_keys opening.me) lines good;
+      keyed = keying (left - 1) (n + 1) opening (no_keys opening.me) lines (others_are line lines are) good;
     }
 
 -- THE WHOLE
 
-headed : (left : ℕ) (lines : List Line) → (told_from limits rules left (behind 0 Heading) lines).verdict ≢ IsRefused
+headed : (left : ℕ) (lines : List Line) → AreLines lines → (told_from limits rules left (behind 0 Heading) lines).verdict ≢ IsRefused
     → IsJudged lines (told_from limits rules left (behind 0 Heading) lines)
 unfolding told_by
-headed left [] = λ good. absurd (good refl)
-headed left (line ∷ lines) =
+headed left [] are = λ good. absurd (good refl)
+headed left (line ∷ lines) are =
     at_step R left 0 Heading line no
-    (λ _. cond_both (bytes_eq line.bytes (codes "xl-journal 1")) (goes_on Setting) (refuses (Refused (Header (first (tokens line.bytes)))))
-    (λ (s : Step). R (line_step_of 0 s)) heading (λ _. no _))
+    (λ _. subst (λ (c : Came). R (line_step_of 0 None c)) (sym (heading_whole line.bytes line.ended))
+    (cond_both (bytes_eq line.bytes (codes "xl-journal 1")) (goes_on Setting) (refuses (Refused (Header (first (tokens line.bytes)))))
+    (λ (s : Step). R (line_step_of 0 None (whole s))) heading (λ _. no _)))
   where
     after : Auditing → Told
     after a = told_from limits rules (left - 1) a lines
@@ -174,9 +232,9 @@ headed left (line ∷ lines) =
     no : (text : List ℕ) → R (line_refuses text)
     no text good = absurd (good refl)
 
-    heading : bytes_eq line.bytes (codes "xl-journal 1") ≡ true → R (line_step_of 0 (goes_on Setting))
+    heading : bytes_eq line.bytes (codes "xl-journal 1") ≡ true → R (line_step_of 0 None (whole (goes_on Setting)))
     heading word good =
-        let behind_it = setting (left - 1) 1 lines good in
+        let behind_it = setting (left - 1) 1 lines (others_are line lines are) good in
         let rest = behind_it.keyed in
         record {
           header = line;
@@ -190,21 +248,22 @@ headed left (line ∷ lines) =
           opens = behind_it.opens;
           keyed = rest.tell;
           met = rest.met;
+          are = rest.are;
           left = rest.left;
           n = rest.n;
           says = rest.says;
         }
 
 pub text_is_judged : TextIsJudged
-text_is_judged bytes = headed most_lines (lines_of bytes)
+text_is_judged bytes = headed most_lines (lines_of bytes) (are_lines bytes)
 
 pub yes_of_the_text : YesOfTheText
 yes_of_the_text bytes good =
     let j : IsJudged (lines_of bytes) (audit_of bytes) = text_is_judged bytes (λ bad. let no : Good ≡ IsRefused = sym good ∙ bad in cc) in
     let core : Core = core_of j.opening j.ring in (
       j,
-      subst (λ (t : Told). AllRight core 0 j.entries t.text) (sym j.says)
-          (yes_is_right j.left j.n 0 core j.entries (ap (λ (t : Told). t.verdict) (sym j.says) ∙ good)),
+      subst (λ (t : Told). AllRight core 0 j.entries t.text ⊎ AllButACut core 0 j.entries t.text) (sym j.says)
+          (yes_is_right j.left j.n 0 core j.entries j.are (ap (λ (t : Told). t.verdict) (sym j.says) ∙ good)),
     )
 
 pub no_of_the_text : NoOfTheText
@@ -213,5 +272,5 @@ no_of_the_text bytes found =
     let core : Core = core_of j.opening j.ring in (
       j,
       subst (λ (t : Told). FirstWrong core 0 j.entries t.text) (sym j.says)
-          (no_names_the_first j.left j.n 0 core j.entries (ap (λ (t : Told). t.verdict) (sym j.says) ∙ found)),
+          (no_names_the_first j.left j.n 0 core j.entries j.are (ap (λ (t : Told). t.verdict) (sym j.says) ∙ found)),
     )

@@ -1,18 +1,11 @@
--- What is told of a written journal. Source: this project's own formats.
-use Rattle.std.specs.Prelude.{ℕ, ◌+◌, ◌==◌, nat_lt, List, [], ◌∷◌, ◌++◌, length, decimal, codes, Result, Ok, Err, Option, Some, None, if◌then◌else◌}
+-- What a line of a written journal leads to. Source: this project's own formats.
+use Rattle.std.specs.Prelude.{ℕ, ◌+◌, List, [], ◌∷◌, ◌++◌, decimal, codes, Result, Ok, Err, Option, Some, None, if◌then◌else◌}
 use Rattle.std.specs.Str.{bytes_eq}
 use Rattle.xl_tags.specs.Rings.{Ring, no_keys}
 use Rattle.xl_core.specs.Core.{Core}
 use Rattle.xl_store.specs.Entries.{reply_of}
-use Rattle.xl_lines.specs.declared.limits.Limits.{Limits}
 use Rattle.xl_lines.specs.declared.limits.Overrun.{Overrun}
 use Rattle.xl_lines.specs.declared.limits.Overrun.TheVariants as overrun
-use Rattle.xl_lines.specs.declared.limits.Returns.TheVariants.{Kept}
-use Rattle.xl_lines.specs.declared.machine.Verdict.TheVariants as verdict
-use Rattle.xl_lines.specs.Rules.{Rules, Step as LineStep, goes_on as line_goes_on, refuses as line_refuses, finds as line_finds, Told, closes}
-use Rattle.xl_lines.specs.Told.{told_of}
-use Rattle.xl_lines.specs.Soon.{told_soon}
-use Rattle.xl_texts.specs.Promises.{Promise, to_what_is_found, always}
 use Rattle.xl_sched.specs.declared.refusal.SchedRefusal.{SchedRefusal}
 use Rattle.xl_sched.specs.declared.refusal.SchedRefusal.TheVariants.{Header, LongLine, Limit, Word, Late}
 use Rattle.xl_sched.specs.Refusals.{code_of, token_of}
@@ -97,31 +90,9 @@ step Setting line = set (opening_in (tokens line))
 step (Keying opening ring) line = keying_step opening ring (tokens line)
 step (Judging core entries) line = judging_step core entries (tokens line)
 
--- a journal so far: how many lines were read, and what they lead to
-pub record Auditing : Type 0 where
-  pub lines : ℕ
-  pub stage : Stage
-
--- before the first line
-abbrev pub at_first : Auditing
-at_first = record { lines = 0; stage = Heading }
-
 abbrev pub beyond : Overrun → BadLine
 beyond overrun.LongLine = Refused (LongLine (decimal most_bytes))
 beyond overrun.ManyLines = Refused (Limit (decimal most_lines))
-
--- what the next line leads to, unless it is too long or one too many
-abbrev pub bounded_step : Auditing → List ℕ → Step
-bounded_step a line =
-    if nat_lt most_bytes (length line) then refuses (beyond overrun.LongLine)
-    else if a.lines == most_lines then refuses (beyond overrun.ManyLines)
-    else step a.stage line
-
--- nothing is written of a line that is in order, and the first that isn't ends the text
-abbrev pub line_step_of : ℕ → Step → LineStep Auditing
-line_step_of lines (goes_on stage) = line_goes_on [] (record { lines = lines + 1; stage = stage })
-line_step_of lines (wrong place) = line_finds (no_line place)
-line_step_of lines (refuses why) = line_refuses (bad_line (lines + 1) why)
 
 -- behind the last line: how many entries there were, or why the journal ends too early
 abbrev pub unless_keyless : Option ℕ → Result ℕ BadLine
@@ -133,30 +104,3 @@ ended Heading = Err (Refused (Header []))
 ended Setting = Err (Refused (Word []))
 ended (Keying opening ring) = unless_keyless (unmet ring opening.list.members)
 ended (Judging core entries) = Ok entries
-
--- the line where it ends is the one behind the last
-abbrev pub told_at_end : ℕ → Result ℕ BadLine → Told
-told_at_end n (Ok entries) = closes (yes_line entries) verdict.Good
-told_at_end n (Err why) = closes (bad_line n why) verdict.Refused
-
-abbrev pub rules : Rules Auditing
-rules = record {
-  step = λ a line _. line_step_of a.lines (bounded_step a line);
-  overrun = λ a overrun. bad_line (a.lines + 1) (beyond overrun);
-  closing = λ a. told_at_end (a.lines + 1) (ended a.stage);
-}
-
-abbrev pub limits : Limits
-limits = record { lines = most_lines; bytes = most_bytes; returns = Kept }
-
--- what is written of these bytes
-abbrev pub audit_of : List ℕ → Told
-audit_of bytes = told_of limits rules at_first bytes
-
--- what is told as soon as they have come
-abbrev pub audit_soon : List ℕ → Told
-audit_soon bytes = told_soon limits rules at_first bytes
-
--- an entry that isn't right ends the text before the input's end
-abbrev pub audit_promise : Promise
-audit_promise = record { told = audit_of; soon = audit_soon; reads = to_what_is_found; shows = always }

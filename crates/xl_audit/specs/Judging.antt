@@ -10,16 +10,24 @@ use Rattle.xl_audit.specs.declared.judging.BadLine.{BadLine}
 use Rattle.xl_audit.specs.declared.judging.BadLine.TheVariants as bad
 use Rattle.xl_audit.specs.declared.judging.Stage.{Stage}
 use Rattle.xl_audit.specs.declared.judging.Stage.TheVariants.{Heading, Setting, Keying, Judging}
+use Rattle.xl_audit.specs.declared.judging.Came.{Came as CameAnswer}
+use Rattle.xl_audit.specs.declared.judging.Came.TheVariants as came
 use Rattle.xl_audit.specs.declared.judging.Step.{Step as Answer}
 use Rattle.xl_audit.specs.declared.judging.Step.TheVariants as answer
 use Rattle.xl_audit.specs.declared.opening.Opening.{Opening}
 use Rattle.xl_audit.specs.Auditing.{Step, goes_on, wrong, refuses}
+use Rattle.xl_audit.specs.Cuts.{Came, cut, whole}
 
 -- a step as a call gives it, with the stage that it leaves
 abbrev pub step_given : Answer → Stage → Step
 step_given answer.GoesOn stage = goes_on stage
 step_given (answer.Wrong place) stage = wrong place
 step_given (answer.Refused why) stage = refuses why
+
+-- and what a line leads to that may be cut short
+abbrev pub came_given : CameAnswer → Stage → Came
+came_given (came.Cut entries) stage = cut entries
+came_given (came.Whole step) stage = whole (step_given step stage)
 
 -- a line is refused so, and not for lack of memory
 pub record IsRefused (why : SchedRefusal) (told : BadLine) : Type 0 where

@@ -13,9 +13,11 @@ pub mod Reading
 pub mod Opening
 pub mod Auditing
 pub mod Journals
+pub mod Leading
+pub mod Cuts
+pub mod Audits
 pub mod Verdicts
 pub mod Judging
-pub mod Leading
 pub mod States
 pub mod Texts
 pub mod Stored

@@ -11,7 +11,8 @@ use Rattle.xl_core.specs.declared.settings.Settings.{Settings}
 use Rattle.xl_store.specs.declared.entry.Entry.{Entry}
 use Rattle.xl_store.specs.Entries.{Leads}
 use Rattle.xl_audit.specs.Limits.{most_bytes, most_lines}
-use Rattle.xl_audit.specs.Auditing.{audit_of, yes_line}
+use Rattle.xl_audit.specs.Auditing.{yes_line}
+use Rattle.xl_audit.specs.Audits.{audit_of}
 use Rattle.xl_audit.specs.Journals.{journal_text, start_of}
 use Rattle.xl_audit.specs.Stored.{AreStored, IsStored}
 

@@ -1,6 +1,6 @@
 -- The state of the machine, as the definitions see it. Source: what the code of this crate keeps.
 use Rattle.xl_audit.specs.declared.judge.Judge.{Judge}
-use Rattle.xl_audit.specs.Auditing.{Auditing}
+use Rattle.xl_audit.specs.Audits.{Auditing}
 
 abbrev pub state_of : Judge → Auditing
-state_of judge = record { lines = judge.lines; stage = judge.stage }
+state_of judge = record { lines = judge.lines; stage = judge.stage; cut = judge.cut }

@@ -1,13 +1,13 @@
 -- What the auditor's answer to a whole text says. Source: this project's own formats.
-use Rattle.std.specs.Prelude.{◌≡◌, ◌≢◌, ℕ, List, [], ◌∷◌, ◌++◌, codes, Ok, None}
+use Rattle.std.specs.Prelude.{◌≡◌, ◌≢◌, ◌⊎◌, ℕ, List, [], ◌∷◌, ◌++◌, codes, Ok, None}
 use Rattle.xl_tags.specs.Rings.{Ring, no_keys}
 use Rattle.xl_lines.specs.declared.machine.Verdict.TheVariants.{Good, Found, Refused}
 use Rattle.xl_lines.specs.Lines.{Line, lines_of}
 use Rattle.xl_lines.specs.Rules.{Told}
 use Rattle.xl_audit.specs.declared.opening.Opening.{Opening}
-use Rattle.xl_audit.specs.Auditing.{audit_of}
+use Rattle.xl_audit.specs.Audits.{audit_of}
 use Rattle.xl_audit.specs.Opening.{core_of, key_in, opening_in, unmet}
-use Rattle.xl_audit.specs.Verdicts.{AllRight, FirstWrong, told_behind}
+use Rattle.xl_audit.specs.Verdicts.{AllButACut, AllRight, AreLines, FirstWrong, told_behind}
 use Rattle.xl_audit.specs.Words.{first, tokens}
 
 -- these lines tell keys, which lead from one ring to another
@@ -31,6 +31,7 @@ pub record IsJudged (lines : List Line) (told : Told) : Type 0 where
   pub opens : opening_in (tokens setting.bytes) ≡ Ok opening
   pub keyed : TellKeys (no_keys opening.me) keys ring
   pub met : unmet ring opening.list.members ≡ None
+  pub are : AreLines entries
   pub left : ℕ
   pub n : ℕ
   pub says : told ≡ told_behind left n 0 (core_of opening ring) entries
@@ -39,11 +40,13 @@ pub record IsJudged (lines : List Line) (told : Told) : Type 0 where
 abbrev pub TextIsJudged : Type 0
 TextIsJudged = (bytes : List ℕ) → (audit_of bytes).verdict ≢ Refused → IsJudged (lines_of bytes) (audit_of bytes)
 
--- where the text says yes, all its entries are right
+-- where the text says yes, all its entries are right, except for a last line that is cut short
 abbrev pub YesOfTheText : Type 0
 YesOfTheText =
     (bytes : List ℕ) → (audit_of bytes).verdict ≡ Good →
-    (j : IsJudged (lines_of bytes) (audit_of bytes)) × AllRight (core_of j.opening j.ring) 0 j.entries (audit_of bytes).text
+    (j : IsJudged (lines_of bytes) (audit_of bytes))
+    × (AllRight (core_of j.opening j.ring) 0 j.entries (audit_of bytes).text
+    ⊎ AllButACut (core_of j.opening j.ring) 0 j.entries (audit_of bytes).text)
 
 -- and where it says no, it names the first that isn't
 abbrev pub NoOfTheText : Type 0

@@ -7,13 +7,14 @@ ghost use Rattle.xl_core.specs.Rest.{IsKeyed};
 ghost use Rattle.std.specs.String.{string_bytes};
 ghost use Rattle.xl_core.specs.Core.{core_asks};
 ghost use Rattle.xl_store.specs.Entries.{IsAllowed, IsOutcome, reply_of};
+ghost use Rattle.xl_audit.specs.Cuts.{likeness_at};
 ghost use Rattle.xl_audit.specs.Laws.{written_with};
 ghost use Rattle.xl_audit.specs.Leading.{TellsDeed};
 ghost use Rattle.xl_audit.specs.Saves.{IsCounted};
 ghost use Rattle.xl_audit.specs.Rights.{IsAsked, IsRight, is_right, reply_to as reply_to_of, tells_of};
 
 use crate::Written;
-use crate::compared::Compared;
+use crate::compared::{Compared, Likeness};
 use crate::saving::EntryKeeper;
 use crate::stepping::{AuditedCore, ROOM, reply_to};
 use std::alloc::Global;
@@ -125,6 +126,27 @@ impl Auditor {
         // Its keys stay, even then.
         ensures keys { OnOk result (self.new.node.keys ≡ self.old.node.keys) }
     {
+        match self.compare(entry, reply, answer)? {
+            Likeness::Same => Ok(true),
+            Likeness::Short | Likeness::Other => Ok(false),
+        }
+    }
+
+    /// What an entry with this reply is beside the right one. If it is the same, what the core answers is put into
+    /// `answer`, except for what it hands out.
+    pub(crate) fn compare(
+        &mut self,
+        entry: &Entry,
+        reply: &[u8],
+        answer: &mut CoreAnswer,
+    ) -> Result<Likeness, OutOfMemory>
+        requires allowed { IsAllowed self.old entry.now.event }
+        requires counted { IsCounted entry.now.outcome }
+        ensures value { IfOk result (λ likeness. likeness ≡ likeness_at self.old (written_with entry.now reply.now)) }
+        ensures core { IfOk result (λ likeness. likeness ≡ Likeness.Same → self.new ≡ (reply_of self.old entry.now).core) }
+        ensures told { IfOk result (λ likeness. likeness ≡ Likeness.Same → TellsDeed self.old entry.now answer.new) }
+        ensures keys { OnOk result (self.new.node.keys ≡ self.old.node.keys) }
+    {
         let mut keeper = EntryKeeper::of(entry.outcome);
         let mut text = Compared::with(self.alloc, reply);
         reply_to(
@@ -136,7 +158,10 @@ impl Auditor {
             &mut text,
             answer,
         )?;
-        Ok(tells_of(keeper.was_asked(), &entry.outcome) && text.is(reply))
+        if !tells_of(keeper.was_asked(), &entry.outcome) {
+            return Ok(Likeness::Other);
+        }
+        Ok(text.likeness(reply))
     }
 }
 

@@ -1,4 +1,4 @@
-ghost use Rattle.xl_audit.specs.Auditing.{audit_promise};
+ghost use Rattle.xl_audit.specs.Audits.{audit_promise};
 
 use crate::judge::Judge;
 use crate::limits::{MOST_BYTES, MOST_LINES};
@@ -8,7 +8,8 @@ use xl_lines::{Limits, Lines, Returns};
 use xl_texts::TextCommand;
 
 /// Reads a written journal, and writes one line: `yes` and how many entries there are, `no` and the place of the first
-/// entry that isn't right, or why a line is refused.
+/// entry that isn't right, or why a line is refused. Behind a `yes` stands `cut` if the last line lacks its newline and
+/// tells no whole entry; the entries before it were judged then.
 ///
 /// Its verdict is `Good` for `yes`, `Found` for `no`, and `Refused` for a refused line.
 pub struct Audit;

@@ -1,6 +1,7 @@
 ghost use Rattle.std.specs.Prelude.{◌≡◌, ◌++◌, ◌≤◌, [], length, take, false, IsTrue};
 ghost use Rattle.std.specs.Str.{bytes_eq};
 ghost use Rattle.hex.specs.Hex.{encode_lower};
+ghost use Rattle.xl_audit.specs.Cuts.{begins, likeness};
 
 use crate::digits::begins_with_digits;
 use crate::reply_text::ReplyText;
@@ -8,6 +9,15 @@ use itoa::Buffer;
 use std::alloc::Global;
 use std::marker::Model;
 use xl_base::OutOfMemory;
+
+/// What a reply is beside the right one.
+#[derive(Clone, Copy, PartialEq, Eq)]
+pub enum Likeness {
+    Same,
+    /// The right one goes on behind it.
+    Short,
+    Other,
+}
 
 /// A reply that is compared with a given one as it is told. Only what stands behind a difference takes memory.
 #[derive(Drop)]
@@ -49,6 +59,19 @@ impl<'a> Compared<'a> {
         is_joined(reply, &self.given[..self.same], self.rest.as_bytes())
     }
 
+    /// What a reply is beside all that was told.
+    pub fn likeness(&self, reply: &[u8]) -> Likeness
+        ensures { result ≡ likeness reply.now self.now }
+    {
+        if self.is(reply) {
+            return Likeness::Same;
+        }
+        if begins_joined(reply, &self.given[..self.same], self.rest.as_bytes()) {
+            return Likeness::Short;
+        }
+        Likeness::Other
+    }
+
     /// Tells the next bytes of the given reply, if they are these, and if nothing stands behind a difference.
     fn goes_on_with(&mut self, part: &[u8]) -> bool
         ensures yes { IsTrue result → self.new ≡ self.old ++ part.now }
@@ -81,6 +104,26 @@ fn is_joined(text: &[u8], front: &[u8], behind: &[u8]) -> bool
     match text.strip_prefix(front) {
         Some(rest) => rest == behind,
         None => false,
+    }
+}
+
+/// Whether a text goes on behind its front.
+fn begins(front: &[u8], text: &[u8]) -> bool
+    ensures { result ≡ begins front.now text.now }
+{
+    match text.strip_prefix(front) {
+        Some(rest) => !rest.is_empty(),
+        None => false,
+    }
+}
+
+/// Whether these two parts go on behind a text.
+fn begins_joined(text: &[u8], front: &[u8], behind: &[u8]) -> bool
+    ensures { result ≡ begins text.now (front.now ++ behind.now) }
+{
+    match text.strip_prefix(front) {
+        Some(rest) => begins(rest, behind),
+        None => begins(text, front),
     }
 }
 

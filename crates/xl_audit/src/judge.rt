@@ -2,7 +2,8 @@
 ghost use Rattle.std.specs.Prelude.{◌≡◌, ℕ, ◌+◌, ◌<◌, ◌≤◌, ◌^◌, None, IfOk, OnErr, OnOk, length};
 ghost use Rattle.xl_audit.specs.Auditing.{step};
 ghost use Rattle.xl_audit.specs.declared.judging.Stage.TheVariants.{Judging};
-ghost use Rattle.xl_audit.specs.Judging.{IsReady, IsReady-prop, MayOpen, entries_of, step_given};
+ghost use Rattle.xl_audit.specs.Cuts.{came_at, last_step};
+ghost use Rattle.xl_audit.specs.Judging.{IsReady, IsReady-prop, MayOpen, came_given, entries_of, step_given};
 ghost use Rattle.xl_audit.specs.Leading.{entry_lead, judging_lead, keying_lead, lead as lead_of, lead_given, opening_lead};
 ghost use Rattle.xl_audit.specs.Opening.{core_of, unmet};
 ghost use Rattle.xl_audit.specs.Words.{tokens};
@@ -10,8 +11,8 @@ ghost use Rattle.xl_audit.specs.Limits.{most_bytes, most_lines};
 
 use crate::Auditor;
 use crate::judging::{
-    BadLine, Lead, Stage, Step, beyond, ended, heading, judge_read, opened, push_bad, push_no,
-    push_yes, read_entry, refused, setting,
+    BadLine, Came, Lead, Stage, Step, beyond, ended, heading, judge_last, judge_read, opened,
+    push_bad, push_cut, push_no, push_yes, read_entry, refuse_last, refused, setting,
 };
 use crate::key_ring::KeyRing;
 use crate::limits::{MOST_BYTES, MOST_LINES};
@@ -29,13 +30,15 @@ pub struct Judge {
     alloc: Global,
     stage: Stage,
     lines: u32,
+    /// Behind how many entries its last line is cut short.
+    cut: Option<u64>,
     ghost ready: { IsReady stage } by { IsReady-prop stage },
     ghost counted: { entries_of stage ≤ lines },
     ghost within: { lines ≤ most_lines },
 }
 
 impl Judge {
-    ghost use Rattle.xl_audit.specs.Auditing.{at_first, bounded_step};
+    ghost use Rattle.xl_audit.specs.Audits.{at_first, bounded_step};
     ghost use Rattle.xl_audit.specs.States.{state_of};
 
     /// Before the first line.
@@ -46,29 +49,43 @@ impl Judge {
             alloc,
             stage: Stage::Heading,
             lines: 0,
+            cut: None,
         }
     }
 
     /// The next line, in its turn.
-    fn take(&mut self, line: &[u8]) -> Result<Step, OutOfMemory>
-        ensures step { IfOk result (λ done.
-            step_given done self.new.stage ≡ bounded_step (state_of self.old) line.now) }
-        ensures counted { IfOk result (λ done. done ≡ Step.GoesOn → self.new.lines ≡ self.old.lines + 1) }
+    fn take(&mut self, line: &[u8], ended: bool) -> Result<Came, OutOfMemory>
+        ensures came { IfOk result (λ came.
+            came_given came self.new.stage ≡ bounded_step (state_of self.old) line.now ended) }
+        ensures counted { IfOk result (λ came. came ≡ Came.Whole Step.GoesOn → self.new.lines ≡ self.old.lines + 1) }
+        ensures counted_cut { IfOk result (λ came. (entries : ℕ) → came ≡ Came.Cut entries
+            → self.new.lines ≡ self.old.lines + 1) }
+        ensures cut { self.new.cut ≡ self.old.cut }
     {
         if line.len() > MOST_BYTES {
-            return Ok(Step::Refused(beyond(self.alloc, Overrun::LongLine)?));
+            let why = beyond(self.alloc, Overrun::LongLine)?;
+            return Ok(Came::Whole(Step::Refused(why)));
         }
         if self.lines == MOST_LINES {
-            return Ok(Step::Refused(beyond(self.alloc, Overrun::ManyLines)?));
+            let why = beyond(self.alloc, Overrun::ManyLines)?;
+            return Ok(Came::Whole(Step::Refused(why)));
         }
-        let step = next(self.alloc, &mut self.stage, line)?;
+        let came = come(self.alloc, &mut self.stage, line, ended)?;
         self.lines += 1;
-        Ok(step)
+        Ok(came)
+    }
+
+    /// The last line is cut short.
+    fn end_behind(&mut self, entries: u64)
+        ensures { state_of self.new ≡ record { lines = self.old.lines; stage = Stage.Heading; cut = Some entries } }
+    {
+        self.stage = Stage::Heading;
+        self.cut = Some(entries);
     }
 }
 
 impl Machine for Judge {
-    ghost use Rattle.xl_audit.specs.Auditing.{Auditing, rules as the_rules};
+    ghost use Rattle.xl_audit.specs.Audits.{Auditing, rules as the_rules};
     ghost use Rattle.xl_audit.specs.States.{state_of};
 
     type Answer = String;
@@ -79,15 +96,19 @@ impl Machine for Judge {
 
     ghost rules = { the_rules };
 
-    fn line(&mut self, line: &[u8], _ended: bool, text: &mut String) -> Result<Next, OutOfMemory> {
+    fn line(&mut self, line: &[u8], ended: bool, text: &mut String) -> Result<Next, OutOfMemory> {
         let number = u64::from(self.lines) + 1;
-        match self.take(line)? {
-            Step::GoesOn => Ok(Next::Line),
-            Step::Wrong(place) => {
+        match self.take(line, ended)? {
+            Came::Cut(entries) => {
+                self.end_behind(entries);
+                Ok(Next::Line)
+            }
+            Came::Whole(Step::GoesOn) => Ok(Next::Line),
+            Came::Whole(Step::Wrong(place)) => {
                 push_no(text, place)?;
                 Ok(Next::Found)
             }
-            Step::Refused(why) => {
+            Came::Whole(Step::Refused(why)) => {
                 push_bad(self.alloc, text, number, &why)?;
                 Ok(Next::Refused)
             }
@@ -100,6 +121,10 @@ impl Machine for Judge {
     }
 
     fn close(&mut self, text: &mut String) -> Result<Verdict, OutOfMemory> {
+        if let Some(entries) = self.cut {
+            push_cut(text, entries)?;
+            return Ok(Verdict::Good);
+        }
         match ended(self.alloc, &self.stage) {
             Ok(entries) => {
                 push_yes(text, entries)?;
@@ -255,5 +280,41 @@ fn next(alloc: Global, stage: &mut Stage, line: &[u8]) -> Result<Step, OutOfMemo
         Lead::GoesOn => Ok(Step::GoesOn),
         Lead::Refused(why) => Ok(Step::Refused(why)),
         Lead::Tells(read) => judge_read(stage, &read),
+    }
+}
+
+/// What a last line without its newline leads to.
+#[inline(never)]
+fn last(alloc: Global, stage: &mut Stage, line: &[u8]) -> Result<Came, OutOfMemory>
+    requires ready { IsReady stage.old }
+    requires few { entries_of stage.old + 1 < 2 ^ 64 }
+    requires short { length line.now ≤ most_bytes }
+    ensures came { IfOk result (λ came. came_given came stage.new ≡ last_step stage.old line.now) }
+    ensures ready { IsReady stage.new }
+    ensures more { IfOk result (λ _. entries_of stage.new ≤ entries_of stage.old + 1) }
+    ensures none { OnErr result (entries_of stage.new ≤ entries_of stage.old) }
+{
+    let before = ended(alloc, stage);
+    match lead(alloc, stage, line)? {
+        Lead::GoesOn => Ok(Came::Whole(Step::GoesOn)),
+        Lead::Refused(why) => Ok(refuse_last(before, why)),
+        Lead::Tells(read) => judge_last(stage, &read),
+    }
+}
+
+/// What a line leads to, if it has its newline or lacks it.
+fn come(alloc: Global, stage: &mut Stage, line: &[u8], ended: bool) -> Result<Came, OutOfMemory>
+    requires ready { IsReady stage.old }
+    requires few { entries_of stage.old + 1 < 2 ^ 64 }
+    requires short { length line.now ≤ most_bytes }
+    ensures came { IfOk result (λ came. came_given came stage.new ≡ came_at stage.old line.now ended) }
+    ensures ready { IsReady stage.new }
+    ensures more { IfOk result (λ _. entries_of stage.new ≤ entries_of stage.old + 1) }
+    ensures none { OnErr result (entries_of stage.new ≤ entries_of stage.old) }
+{
+    if ended {
+        Ok(Came::Whole(next(alloc, stage, line)?))
+    } else {
+        last(alloc, stage, line)
     }
 }

@@ -2,13 +2,16 @@
 ghost use Rattle.std.specs.Prelude.{◌≡◌, ◌+◌, ◌++◌, ◌<◌, ◌≤◌, ◌^◌, None, IfOk, OnErr, OnOk, decimal};
 ghost use Rattle.std.specs.String.{string_bytes};
 ghost use Rattle.xl_audit.specs.Auditing.{bad_line, bad_text, beyond, ended, heading_step, no_line, set, yes_line};
-ghost use Rattle.xl_audit.specs.Judging.{IsReady, IsRefused, MayOpen, entries_of, step_given};
+ghost use Rattle.xl_audit.specs.Audits.{cut_line};
+ghost use Rattle.xl_audit.specs.Cuts.{judged_last, refused_behind};
+ghost use Rattle.xl_audit.specs.Judging.{IsReady, IsRefused, MayOpen, came_given, entries_of, step_given};
 ghost use Rattle.xl_audit.specs.Leading.{IsAskedAt, judged_at, lead_given, leads, read_lead};
 ghost use Rattle.xl_audit.specs.Opening.{core_of, opening_in, unmet};
 ghost use Rattle.xl_audit.specs.Reading.{entry_in};
 ghost use Rattle.xl_audit.specs.Words.{tokens};
 
 use crate::Auditor;
+use crate::compared::Likeness;
 use crate::entries::{ReadEntry, entry};
 use crate::key_ring::KeyRing;
 use crate::limits::{MOST_BYTES, MOST_LINES};
@@ -50,6 +53,14 @@ pub enum Step {
     /// The entry of this place, from 1 on, isn't right.
     Wrong(u64),
     Refused(BadLine),
+}
+
+/// What a line leads to that may be cut short.
+#[derive(Drop)]
+pub enum Came {
+    /// It is, behind this many entries.
+    Cut(u64),
+    Whole(Step),
 }
 
 /// What a line leads to before its entry is judged.
@@ -141,6 +152,41 @@ pub fn judge_read(stage: &mut Stage, read: &ReadEntry<'_>) -> Result<Step, OutOf
             }
         }
         _ => Ok(Step::GoesOn),
+    }
+}
+
+/// The entry of a last line that lacks its newline is judged, and counted if it is right.
+pub fn judge_last(stage: &mut Stage, read: &ReadEntry<'_>) -> Result<Came, OutOfMemory>
+    requires asked { IsAskedAt stage.old read.now }
+    requires few { entries_of stage.old + 1 < 2 ^ 64 }
+    ensures came { IfOk result (λ came. came_given came stage.new ≡ judged_last stage.old read.now) }
+    ensures ready { IsReady stage.old → IsReady stage.new }
+    ensures more { IfOk result (λ _. entries_of stage.new ≤ entries_of stage.old + 1) }
+    ensures none { OnErr result (entries_of stage.new ≤ entries_of stage.old) }
+{
+    match stage {
+        Stage::Judging { auditor, entries } => {
+            let mut answer = CoreAnswer::Done;
+            match auditor.compare(&read.entry, read.reply, &mut answer)? {
+                Likeness::Same => {
+                    *entries += 1;
+                    Ok(Came::Whole(Step::GoesOn))
+                }
+                Likeness::Short => Ok(Came::Cut(*entries)),
+                Likeness::Other => Ok(Came::Whole(Step::Wrong(*entries + 1))),
+            }
+        }
+        _ => Ok(Came::Whole(Step::GoesOn)),
+    }
+}
+
+/// A last line that lacks its newline is refused.
+pub fn refuse_last(before: Result<u64, BadLine>, why: BadLine) -> Came
+    ensures { (stage : Stage) → came_given result stage ≡ refused_behind before why }
+{
+    match before {
+        Ok(entries) => Came::Cut(entries),
+        Err(_) => Came::Whole(Step::Refused(why)),
     }
 }
 
@@ -239,6 +285,14 @@ pub fn push_yes(text: &mut String, entries: u64) -> Result<(), OutOfMemory>
     ensures { OnOk result (string_bytes text.new ≡ string_bytes text.old ++ yes_line entries) }
 {
     writeln!(text, "yes {entries}")?;
+    Ok(())
+}
+
+/// Behind a last line that is cut short.
+pub fn push_cut(text: &mut String, entries: u64) -> Result<(), OutOfMemory>
+    ensures { OnOk result (string_bytes text.new ≡ string_bytes text.old ++ cut_line entries) }
+{
+    writeln!(text, "yes {entries} cut")?;
     Ok(())
 }
 

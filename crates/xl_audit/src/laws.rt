@@ -16,7 +16,7 @@ pub fn legal_is_right()
 
 /// The law of what is written of the lines of entries, which has no code.
 pub fn yes_and_no()
-    // A yes says that each line tells an entry, and that each entry is right.
+    // A yes says that each line tells an entry, and that each entry is right, except for a last line that is cut short.
     ensures yes { YesIsRight }
     // A no names the first entry that isn't right.
     ensures no { NoNamesTheFirst }
@@ -26,7 +26,8 @@ pub fn yes_and_no()
 pub fn whole_texts()
     // If no line is refused, the text is a header, settings, keys, and entries that decide.
     ensures judged { TextIsJudged }
-    // A yes says that all entries are right, at the core that opens with the settings and the keys.
+    // A yes says that all entries are right, except for a last line that is cut short, at the core that opens with the
+    // settings and the keys.
     ensures yes { YesOfTheText }
     // A no names the first entry that isn't right.
     ensures no { NoOfTheText }

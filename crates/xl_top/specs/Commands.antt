@@ -10,7 +10,7 @@ use Rattle.xl_lines.specs.declared.machine.Verdict.{Verdict}
 use Rattle.xl_lines.specs.declared.machine.Verdict.TheVariants.{Good, Found, Refused}
 use Rattle.xl_lines.specs.Rules.{closes}
 use Rattle.xl_texts.specs.Promises.{Promise, Reads, on, to_what_is_found, nothing, alone, at_once}
-use Rattle.xl_audit.specs.Auditing.{audit_promise}
+use Rattle.xl_audit.specs.Audits.{audit_promise}
 use Rattle.xl_blame.specs.Blaming.{blame_promise}
 use Rattle.xl_merge.specs.Merging.{merge_promise}
 use Rattle.xl_pairs.specs.Comparing.{lists_promise}

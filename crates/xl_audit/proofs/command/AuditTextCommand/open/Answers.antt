@@ -3,7 +3,7 @@ use Rattle.std.proofs.Common.{ap, ◌∙◌}
 use Rattle.xl_lines.specs.Told.{told_of}
 use Rattle.xl_lines.specs.Soon.{told_soon}
 use Rattle.xl_lines.proofs.Aloud.{told_at-aloud}
-use Rattle.xl_audit.specs.Auditing.{Auditing, limits, rules}
+use Rattle.xl_audit.specs.Audits.{Auditing, limits, rules}
 use Rattle.xl_audit.specs.States.{state_of}
 use Rattle.xl_audit.proofs.Aloud.{ends_aloud}
 use Rattle.xl_audit.proofs.command.AuditTextCommand.open.Goals as goal

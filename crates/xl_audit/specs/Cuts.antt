@@ -1,0 +1,68 @@
+-- A last line that lacks its newline. Source: text files of POSIX, whose last line may lack it, as that of a process that
+-- was killed; this project's own formats.
+use Rattle.std.specs.Prelude.{ℕ, ◌+◌, ◌==◌, ◌&&◌, Bool, true, false, List, [], ◌∷◌, is_some, Result, Ok, Err, if◌then◌else◌}
+use Rattle.std.specs.Str.{bytes_eq}
+use Rattle.xl_core.specs.Core.{Core, core_asks}
+use Rattle.xl_store.specs.Entries.{reply_of}
+use Rattle.xl_audit.specs.declared.compared.Likeness.{Likeness}
+use Rattle.xl_audit.specs.declared.compared.Likeness.TheVariants as like
+use Rattle.xl_audit.specs.declared.judging.BadLine.{BadLine}
+use Rattle.xl_audit.specs.declared.judging.Stage.{Stage}
+use Rattle.xl_audit.specs.declared.judging.Stage.TheVariants.{Judging}
+use Rattle.xl_audit.specs.declared.written.Written.{Written}
+use Rattle.xl_audit.specs.Auditing.{Step, goes_on, wrong, refuses, ended, step}
+use Rattle.xl_audit.specs.Leading.{Lead, leads, tells, lead}
+use Rattle.xl_audit.specs.Rights.{reply_to, tells_of}
+
+-- bytes begin others, which go on behind them
+abbrev pub begins : List ℕ → List ℕ → Bool
+begins [] [] = false
+begins [] (b ∷ others) = true
+begins (a ∷ more) [] = false
+begins (a ∷ more) (b ∷ others) = (a == b) && begins more others
+
+-- a reply beside the right one
+abbrev pub likeness : List ℕ → List ℕ → Likeness
+likeness reply right = if bytes_eq reply right then like.Same else if begins reply right then like.Short else like.Other
+
+-- an entry beside the right one: if its save can't have been answered so, no more bytes would help
+abbrev pub likeness_at : Core → Written → Likeness
+likeness_at core w =
+    if tells_of (is_some (core_asks core w.entry.event)) w.entry.outcome then likeness w.reply (reply_to core w.entry)
+    else like.Other
+
+-- what a line leads to that may be cut short
+pub data Came : Type 0 where
+  -- it is, behind this many entries
+  cut : (entries : ℕ) → Came
+  whole : (step : Step) → Came
+
+-- a refused line is cut short, if what stands before it gets yes
+abbrev pub refused_behind : Result ℕ BadLine → BadLine → Came
+refused_behind (Ok entries) why = cut entries
+refused_behind (Err early) why = whole (refuses why)
+
+-- and so is an entry, if the right reply goes on behind its own
+abbrev pub entry_behind : Core → ℕ → Written → Likeness → Came
+entry_behind core entries w like.Same = whole (goes_on (Judging (reply_of core w.entry).core (entries + 1)))
+entry_behind core entries w like.Short = cut entries
+entry_behind core entries w like.Other = whole (wrong (entries + 1))
+
+abbrev pub judged_last : Stage → Written → Came
+judged_last (Judging core entries) w = entry_behind core entries w (likeness_at core w)
+judged_last other w = whole (goes_on other)
+
+abbrev pub led_last : Result ℕ BadLine → Lead → Came
+led_last before (leads (goes_on stage)) = whole (goes_on stage)
+led_last before (leads (wrong place)) = whole (wrong place)
+led_last before (leads (refuses why)) = refused_behind before why
+led_last before (tells stage w) = judged_last stage w
+
+-- what a last line without its newline leads to
+abbrev pub last_step : Stage → List ℕ → Came
+last_step stage line = led_last (ended stage) (lead stage line)
+
+-- what a line leads to, if it has its newline or lacks it
+abbrev pub came_at : Stage → List ℕ → Bool → Came
+came_at stage line true = whole (step stage line)
+came_at stage line false = last_step stage line
