@@ -1,7 +1,7 @@
 -- What happens at a core happens at its node, or beside it.
 use Rattle.std.proofs.Common.{◌≡◌, ℕ, [], refl, true, Some, take}
 use Rattle.xl_core.specs.declared.event.CoreEvent.{CoreEvent}
-use Rattle.xl_core.specs.declared.event.CoreEvent.TheVariants.{Issue, Frame, Timer, Submit, Greet, Drain, Reports, Stop, Stopped, Relist}
+use Rattle.xl_core.specs.declared.event.CoreEvent.TheVariants.{Issue, Frame, Timer, Submit, Greet, Drain, Reports, Stop, Stopped, Ping, Relist}
 use Rattle.xl_core.specs.Answers.{Answer, Done, Gave, Handed, Told, handed_in}
 use Rattle.xl_core.specs.Core.{Core, CoreReply, core_reply, core_happens, after_drain, given_for, after_greeting, node_event, after_reply}
 use Rattle.xl_core.specs.Node as nodes
@@ -22,6 +22,7 @@ node_or_other P core (Drain member room) save node other reports = other (after_
 node_or_other P core (Reports room) save node other reports = reports room
 node_or_other P core Stop save node other reports = other (record core { stopped = true }) Done refl refl refl
 node_or_other P core Stopped save node other reports = other core (Told core.stopped) refl refl refl
+node_or_other P core Ping save node other reports = other core (Told true) refl refl refl
 node_or_other P core (Relist now list) save node other reports = node (nodes.Relist now list) refl
 
 -- what holds of an event of the node, and of whatever leaves the node as it was, holds of every event

@@ -29,7 +29,7 @@ use Rattle.xl_ledger.specs.Headers.{spelling}
 use Rattle.xl_core.specs.Answers.{Done}
 use Rattle.xl_core.proofs.Timing.{timing_by, submit_either, relist_either}
 use Rattle.xl_core.specs.declared.event.CoreEvent.{CoreEvent}
-use Rattle.xl_core.specs.declared.event.CoreEvent.TheVariants.{Issue, Frame, Timer, Submit, Greet, Drain, Reports, Stop, Stopped, Relist}
+use Rattle.xl_core.specs.declared.event.CoreEvent.TheVariants.{Issue, Frame, Timer, Submit, Greet, Drain, Reports, Stop, Stopped, Ping, Relist}
 use Rattle.xl_core.specs.declared.hearing.Spoken.{Spoken}
 use Rattle.xl_core.specs.declared.item.Item.{Item}
 use Rattle.xl_core.specs.declared.item.Item.TheVariants.{Validation as ValidationItem, Tx, TxSet, Proposal, Header as HeaderItem}
@@ -239,6 +239,7 @@ step_on held core given Stop save life = record {
   all = none_given core.node.kept given life.all;
 }
 step_on held core given Stopped save life = record { own = life.own; covered = life.covered; all = none_given core.node.kept given life.all }
+step_on held core given Ping save life = record { own = life.own; covered = life.covered; all = none_given core.node.kept given life.all }
 step_on held core given (Relist now list) save life =
     let same = stays_itself core.node (nodes.Relist now list) save in
     record {

@@ -7,7 +7,7 @@ use Rattle.std.specs.Int.{bit_at}
 use Rattle.xl_queues.specs.Queues.{Backlog, no_items}
 use Rattle.xl_wire.specs.declared.validation.Validation.{Validation}
 use Rattle.xl_core.specs.declared.event.CoreEvent.{CoreEvent}
-use Rattle.xl_core.specs.declared.event.CoreEvent.TheVariants.{Issue, Frame, Timer, Submit, Greet, Drain, Reports, Stop, Stopped, Relist}
+use Rattle.xl_core.specs.declared.event.CoreEvent.TheVariants.{Issue, Frame, Timer, Submit, Greet, Drain, Reports, Stop, Stopped, Ping, Relist}
 use Rattle.xl_core.specs.declared.the_core.greeting.Greeting.{Greeting}
 use Rattle.xl_core.specs.declared.item.Item.{Item}
 use Rattle.xl_core.specs.declared.report.Report.{Report}
@@ -122,6 +122,7 @@ core_happens core (Reports room) save =
     core_reply (record core { untaken = without room core.untaken }) (Handed (take room core.untaken.items))
 core_happens core Stop save = core_reply (record core { stopped = true }) Done
 core_happens core Stopped save = core_reply core (Told core.stopped)
+core_happens core Ping save = core_reply core (Told true)
 core_happens core (Relist now list) save = after_reply core (happens core.node (nodes.Relist now list) save)
 
 -- the save that an event asks

@@ -11,7 +11,7 @@ use Rattle.xl_core.specs.declared.core_answer.CoreAnswer.TheVariants as told
 use Rattle.xl_core.specs.declared.deed.Deed.{Deed}
 use Rattle.xl_core.specs.declared.deed.Deed.TheVariants as deed
 use Rattle.xl_core.specs.declared.event.CoreEvent.{CoreEvent}
-use Rattle.xl_core.specs.declared.event.CoreEvent.TheVariants.{Issue, Frame, Timer, Submit, Greet, Stop, Stopped, Relist}
+use Rattle.xl_core.specs.declared.event.CoreEvent.TheVariants.{Issue, Frame, Timer, Submit, Greet, Stop, Stopped, Ping, Relist}
 use Rattle.xl_core.specs.Answers.{Answer, Refused, Took, Beats, Done, Told}
 use Rattle.xl_core.specs.Core.{Core, core_happens, core_asks}
 use Rattle.xl_core.specs.Hearing.{bytes_as_sealed}
@@ -33,6 +33,7 @@ event_under keys (deed.Greet member) = Greet member
 event_under keys (deed.Relist now list) = Relist now list.now
 event_under keys deed.Stop = Stop
 event_under keys deed.Stopped = Stopped
+event_under keys deed.Ping = Ping
 
 abbrev pub event_for : Core → Deed → CoreEvent
 event_for core d = event_under core.node.keys d
@@ -48,6 +49,7 @@ MayUnder keys (deed.Greet member) = IsSome (key_of keys member)
 MayUnder keys (deed.Relist now list) = now ≤ greatest_millis
 MayUnder keys deed.Stop = Unit {0}
 MayUnder keys deed.Stopped = Unit {0}
+MayUnder keys deed.Ping = Unit {0}
 
 abbrev pub MayHappen : Core → Deed → Type 0
 MayHappen core d = MayUnder core.node.keys d

@@ -44,4 +44,6 @@ pub enum Deed<'a> {
     Stop,
     /// It is asked whether it was told to stop.
     Stopped,
+    /// It is asked whether it is there.
+    Ping,
 }

@@ -42,6 +42,8 @@ pub enum CoreEvent {
     Stop,
     /// It is asked whether it was told to stop.
     Stopped,
+    /// It is asked whether it is there.
+    Ping,
     /// Another list is to be in force.
     Relist {
         now: Millis,

@@ -9,7 +9,7 @@ ghost use Rattle.xl_core.specs.Building.{said_items};
 ghost use Rattle.xl_core.specs.Core.{with_queues, core_happens, core_asks};
 ghost use Rattle.xl_core.specs.Marks.{StayMarks};
 ghost use Rattle.xl_core.specs.Queues.{with_items};
-ghost use Rattle.xl_core.specs.declared.event.CoreEvent.TheVariants.{Issue, Timer, Submit, Greet, Stop, Stopped, Relist};
+ghost use Rattle.xl_core.specs.declared.event.CoreEvent.TheVariants.{Issue, Timer, Submit, Greet, Stop, Stopped, Ping, Relist};
 ghost use Rattle.xl_core.specs.Stops.{HoldsAtLeast, IsCovered, StaysCovered};
 ghost use Rattle.xl_core.specs.Keeping.{AsksSave, CountsFault, Holds, IsAsked, Saves};
 ghost use Rattle.xl_core.specs.Replies.{Answers, Issues, done_answer, was_kept};
@@ -322,5 +322,12 @@ impl<B: Branch + Drop> Core<B> {
         ensures step { Answers (core_happens self.now Stopped Kept) self.now (Told result) }
     {
         self.stopped
+    }
+
+    /// Whether the core is there, which it is.
+    pub fn ping(&self) -> bool
+        ensures step { Answers (core_happens self.now Ping Kept) self.now (Told result) }
+    {
+        true
     }
 }

@@ -77,6 +77,7 @@ impl<B: Branch + Drop> Core<B> {
                 *answer = CoreAnswer::Done;
             }
             Deed::Stopped => *answer = CoreAnswer::Told(self.stopped()),
+            Deed::Ping => *answer = CoreAnswer::Told(self.ping()),
         }
     }
 }

@@ -3,7 +3,7 @@ use Rattle.std.proofs.Common.{refl, subst}
 use Rattle.xl_lists.specs.Lists.{TrustedList}
 use Rattle.xl_core.specs.declared.core_answer.CoreAnswer.TheVariants as told
 use Rattle.xl_core.specs.declared.deed.Deed.TheVariants as deed
-use Rattle.xl_core.specs.declared.event.CoreEvent.TheVariants.{Issue, Frame, Timer, Submit, Greet, Relist, Stop, Stopped}
+use Rattle.xl_core.specs.declared.event.CoreEvent.TheVariants.{Issue, Frame, Timer, Submit, Greet, Relist, Stop, Stopped, Ping}
 use Rattle.xl_core.specs.Answers.{Beats, Done, Told}
 use Rattle.xl_core.specs.Hearing.{bytes_as_sealed}
 use Rattle.xl_core.specs.Core.{core_happens}
@@ -62,3 +62,8 @@ pub returns-in-Stopped : goal.returns-in-Stopped
 returns-in-Stopped g c =
     of_deed g.K.Keeper.held g.K.Keeper.saves g.K.Keeper.faults g.K.Keeper.save_gives c.args.self.now c.args.self.now c.args.deed.now deed.Stopped (told.Told c.stopped.result) c.args.keeper.now c.args.keeper.now c.in-Stopped.is
     (by_unasked g.K.Keeper.held g.K.Keeper.saves g.K.Keeper.faults g.K.Keeper.save_gives c.args.self.now c.args.self.now Stopped (told.Told c.stopped.result) c.args.keeper.now (Told c.stopped.result) refl refl c.stopped.ensures.step (λ _ was. was))
+
+pub returns-in-Ping : goal.returns-in-Ping
+returns-in-Ping g c =
+    of_deed g.K.Keeper.held g.K.Keeper.saves g.K.Keeper.faults g.K.Keeper.save_gives c.args.self.now c.args.self.now c.args.deed.now deed.Ping (told.Told c.ping.result) c.args.keeper.now c.args.keeper.now c.in-Ping.is
+    (by_unasked g.K.Keeper.held g.K.Keeper.saves g.K.Keeper.faults g.K.Keeper.save_gives c.args.self.now c.args.self.now Ping (told.Told c.ping.result) c.args.keeper.now (Told c.ping.result) refl refl c.ping.ensures.step (λ _ was. was))
