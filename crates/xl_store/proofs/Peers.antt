@@ -1,7 +1,7 @@
 -- The peers of a core stay the same.
 use Rattle.std.proofs.Common.{◌≡◌, List, [], ◌∷◌, refl, sym, ap, ◌∙◌}
 use Rattle.xl_core.specs.declared.event.CoreEvent.{CoreEvent}
-use Rattle.xl_core.specs.declared.event.CoreEvent.TheVariants.{Issue, Frame, Timer, Submit, Greet, Drain, Reports, Stop, Stopped, Relist}
+use Rattle.xl_core.specs.declared.event.CoreEvent.TheVariants.{Issue, Frame, Timer, Submit, Greet, Drain, Reports, Stop, Stopped, Ping, Relist}
 use Rattle.xl_core.specs.Core.{Core, core_happens}
 use Rattle.xl_core.specs.Node as nodes
 use Rattle.xl_core.specs.Node.{Save}
@@ -21,6 +21,7 @@ keys_stay core (Drain member room) save = refl
 keys_stay core (Reports room) save = refl
 keys_stay core Stop save = refl
 keys_stay core Stopped save = refl
+keys_stay core Ping save = refl
 
 pub peers_stay : (c d : Core) (es : List Entry) → Runs Leads c es d → d.node.keys ≡ c.node.keys
 peers_stay c d [] r = ap (λ (x : Core). x.node.keys) (sym r)

@@ -8,7 +8,7 @@ use Rattle.xl_lists.specs.Lists.{IsValid}
 use Rattle.xl_tags.specs.Rings.{key_of}
 use Rattle.xl_wire.specs.Lengths.{longest_frame}
 use Rattle.xl_core.specs.declared.event.CoreEvent.{CoreEvent}
-use Rattle.xl_core.specs.declared.event.CoreEvent.TheVariants.{Issue, Frame, Timer, Submit, Relist, Greet, Drain, Reports, Stop, Stopped}
+use Rattle.xl_core.specs.declared.event.CoreEvent.TheVariants.{Issue, Frame, Timer, Submit, Relist, Greet, Drain, Reports, Stop, Stopped, Ping}
 use Rattle.xl_core.specs.Core.{Core, CoreReply, core_happens, core_asks}
 use Rattle.xl_core.specs.CoreLives.{CoreHappening}
 use Rattle.xl_core.specs.Node.{Save}
@@ -58,6 +58,7 @@ IsAllowed core (Drain member room) = IsSome (key_of core.node.keys member) × (l
 IsAllowed core (Reports room) = Unit {0}
 IsAllowed core Stop = Unit {0}
 IsAllowed core Stopped = Unit {0}
+IsAllowed core Ping = Unit {0}
 
 -- The entry leads from one core to the next by the core's step, with an outcome that its event can have there
 pub record Leads (before : Core) (e : Entry) (after : Core) : Type 0 where

@@ -5,7 +5,7 @@ ghost use Rattle.xl_wire.specs.Lengths.{longest_frame};
 ghost use Rattle.xl_wire.specs.Raws.{SpellsRaw, raw_frame};
 ghost use Rattle.xl_core.specs.Answers.{Beats, Done, Told};
 ghost use Rattle.xl_core.specs.Replies.{taken_answer, done_answer};
-ghost use Rattle.xl_core.specs.declared.event.CoreEvent.TheVariants.{Issue, Frame, Timer, Submit, Greet, Stop, Stopped, Relist};
+ghost use Rattle.xl_core.specs.declared.event.CoreEvent.TheVariants.{Issue, Frame, Timer, Submit, Greet, Stop, Stopped, Ping, Relist};
 ghost use Rattle.xl_store.specs.Statuses.{status_of};
 ghost use Rattle.xl_store.specs.Stores.{start_of, core_seen, IsOf, Called, Drained, HandedOut, Refused};
 
@@ -276,5 +276,18 @@ impl<B: Branch + Drop, K: Keeper + Drop> Store<B, K> {
         let stopped = turn.object.core.stopped();
         self.finish(pass, turn, page);
         Ok(stopped)
+    }
+
+    /// Whether the core is there, which it is.
+    pub fn ping<W: Wait>(&self, rt: &W, pass: &mut Pass) -> Result<bool, StoreEnd>
+        requires pass { IsOf self.now pass.old }
+        ensures pass { IsOf self.now pass.new }
+        ensures called { IfOk result (λ there. Called self.now pass.old Ping (Told there) pass.new) }
+        ensures refused { IfErr result (λ end. Refused self.now pass.old end pass.new) }
+    {
+        let (turn, page) = self.enter(rt, pass, CoreEvent::Ping)?;
+        let there = turn.object.core.ping();
+        self.finish(pass, turn, page);
+        Ok(there)
     }
 }
