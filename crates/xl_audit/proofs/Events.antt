@@ -62,6 +62,7 @@ event_words (event.Drain member room) = codes "drain" ∷ decimal member ∷ dec
 event_words (event.Reports room) = codes "reports" ∷ decimal room ∷ []
 event_words event.Stop = codes "stop" ∷ []
 event_words event.Stopped = codes "stopped" ∷ []
+event_words event.Ping = codes "ping" ∷ []
 
 after_word : (word : List ℕ) (ts us : List (List ℕ)) → ts ≡ us → word ∷ ts ≡ word ∷ us
 after_word word ts us e = ap (λ (xs : List (List ℕ)). word ∷ xs) e
@@ -89,6 +90,7 @@ plain (event.Drain member room) = codes "drain " ++ (decimal member ++ 32 ∷ de
 plain (event.Reports room) = codes "reports " ++ decimal room
 plain event.Stop = codes "stop"
 plain event.Stopped = codes "stopped"
+plain event.Ping = codes "ping"
 
 plain_is : (e : CoreEvent) → event_text e ≡ plain e
 plain_is (event.Frame now bytes) = ap (λ (xs : List ℕ). codes "frame " ++ xs) (append_assoc (decimal now) space (bytes_text bytes))
@@ -109,6 +111,7 @@ plain_is (event.Drain member room) = ap (λ (xs : List ℕ). codes "drain " ++ x
 plain_is (event.Reports room) = refl
 plain_is event.Stop = refl
 plain_is event.Stopped = refl
+plain_is event.Ping = refl
 
 plain_tokens : (e : CoreEvent) → tokens (plain e) ≡ event_words e
 plain_tokens (event.Frame now bytes) =
@@ -134,6 +137,7 @@ plain_tokens (event.Drain member room) =
 plain_tokens (event.Reports room) = last_word (codes "reports") (decimal room) (decimal_word room)
 plain_tokens event.Stop = refl
 plain_tokens event.Stopped = refl
+plain_tokens event.Ping = refl
 
 event_tokens : (e : CoreEvent) → tokens (event_text e) ≡ event_words e
 event_tokens e = ap tokens (plain_is e) ∙ plain_tokens e
@@ -184,6 +188,7 @@ plain_line (event.Drain member room) = both_lines (decimal member) (32 ∷ decim
 plain_line (event.Reports room) = decimal_line room
 plain_line event.Stop = refl
 plain_line event.Stopped = refl
+plain_line event.Ping = refl
 
 event_line : (e : CoreEvent) → is_line (event_text e) ≡ true
 event_line e = ap is_line (plain_is e) ∙ plain_line e
@@ -317,6 +322,7 @@ module _ (core : Core) (o : Option Saved) (reply : List ℕ) (tail : IsTail (tai
       (tail_behind front (tail_words o reply) o reply tail)
   event_again event.Stop allowed stored = counted_again ring word.Stop (behind []) event.Stop o reply refl tail
   event_again event.Stopped allowed stored = counted_again ring word.Stopped (behind []) event.Stopped o reply refl tail
+  event_again event.Ping allowed stored = counted_again ring word.Ping (behind []) event.Ping o reply refl tail
 
 -- a failure that can have been is counted
 pub counted_of : (asks : Option ℕ) (o : Option Saved) → IsOutcome asks o → IsCounted o
@@ -344,6 +350,7 @@ no_key (event.Drain member room) rest = refl
 no_key (event.Reports room) rest = refl
 no_key event.Stop rest = refl
 no_key event.Stopped rest = refl
+no_key event.Ping rest = refl
 
 pub is_no_key : (w : Written) → bytes_eq (first (tokens (entry_text w))) (codes "key") ≡ false
 is_no_key w =

@@ -5,7 +5,7 @@ use Rattle.xl_core.specs.Core.{Core, core_happens}
 use Rattle.xl_core.specs.Node as nodes
 use Rattle.xl_core.specs.Node.{Save}
 use Rattle.xl_core.specs.declared.event.CoreEvent.{CoreEvent}
-use Rattle.xl_core.specs.declared.event.CoreEvent.TheVariants.{Issue, Frame, Timer, Submit, Relist, Greet, Drain, Reports, Stop, Stopped}
+use Rattle.xl_core.specs.declared.event.CoreEvent.TheVariants.{Issue, Frame, Timer, Submit, Relist, Greet, Drain, Reports, Stop, Stopped, Ping}
 use Rattle.xl_core.proofs.Stepping.{stays_itself}
 
 pub core_keys : (core : Core) (e : CoreEvent) (save : Save) → (core_happens core e save).core.node.keys ≡ core.node.keys
@@ -19,6 +19,7 @@ core_keys core (Drain member room) save = refl
 core_keys core (Reports room) save = refl
 core_keys core Stop save = refl
 core_keys core Stopped save = refl
+core_keys core Ping save = refl
 
 -- what holds anyway holds of an answer of Ok
 pub whenever : {T E : Type 0} (r : Result T E) (P : Type 0) → P → OnOk r P

@@ -47,6 +47,7 @@ event_text (event.Drain member room) = codes "drain " ++ decimal member ++ space
 event_text (event.Reports room) = codes "reports " ++ decimal room
 event_text event.Stop = codes "stop"
 event_text event.Stopped = codes "stopped"
+event_text event.Ping = codes "ping"
 
 -- how its save was answered
 abbrev pub outcome_text : Option Saved → List ℕ

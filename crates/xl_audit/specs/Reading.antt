@@ -36,6 +36,7 @@ entry_word token =
     else if bytes_eq token (codes "reports") then Some word.Reports
     else if bytes_eq token (codes "stop") then Some word.Stop
     else if bytes_eq token (codes "stopped") then Some word.Stopped
+    else if bytes_eq token (codes "ping") then Some word.Ping
     else None
 
 -- how many tokens tell the event, behind its word
@@ -49,6 +50,7 @@ arity word.Drain = 2
 arity word.Reports = 1
 arity word.Stop = 0
 arity word.Stopped = 0
+arity word.Ping = 0
 
 -- `now digits`, or `-` for no bytes
 abbrev pub frame_event : List (List ℕ) → Result CoreEvent SchedRefusal
@@ -109,6 +111,7 @@ event_of ring word.Drain args = drain_event ring args
 event_of ring word.Reports args = reports_event args
 event_of ring word.Stop args = Ok event.Stop
 event_of ring word.Stopped args = Ok event.Stopped
+event_of ring word.Ping args = Ok event.Ping
 
 -- how many tokens tell how a save was answered
 abbrev pub outcome_len : Option Saved → ℕ

@@ -27,6 +27,7 @@ IsStoredEvent (event.Drain member room) = IsMember member × (room < 2 ^ 64)
 IsStoredEvent (event.Reports room) = room < 2 ^ 64
 IsStoredEvent event.Stop = Unit {0}
 IsStoredEvent event.Stopped = Unit {0}
+IsStoredEvent event.Ping = Unit {0}
 
 abbrev pub IsStoredOutcome : Option Saved → Type 0
 IsStoredOutcome None = Unit {0}

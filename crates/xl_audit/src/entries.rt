@@ -121,6 +121,7 @@ fn event<'a>(
         EntryWord::Reports => reports(args),
         EntryWord::Stop => Ok(CoreEvent::Stop),
         EntryWord::Stopped => Ok(CoreEvent::Stopped),
+        EntryWord::Ping => Ok(CoreEvent::Ping),
     }
 }
 

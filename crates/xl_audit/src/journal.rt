@@ -121,6 +121,7 @@ fn push_event(alloc: Global, text: &mut String, event: &CoreEvent) -> Result<(),
         }
         CoreEvent::Stop => text.word("stop"),
         CoreEvent::Stopped => text.word("stopped"),
+        CoreEvent::Ping => text.word("ping"),
     }
 }
 

@@ -305,6 +305,7 @@ pub fn reply_to<T: ReplyText>(
         }
         CoreEvent::Stop => reply_to_deed(alloc, core, &Deed::Stop, keeper, text, answer),
         CoreEvent::Stopped => reply_to_deed(alloc, core, &Deed::Stopped, keeper, text, answer),
+        CoreEvent::Ping => reply_to_deed(alloc, core, &Deed::Ping, keeper, text, answer),
         CoreEvent::Drain { member, room } => reply_to_drain(alloc, core, member, room, piece, text),
         CoreEvent::Reports { room } => reply_to_reports(alloc, core, room, text),
     }

@@ -14,6 +14,7 @@ pub enum EntryWord {
     Reports,
     Stop,
     Stopped,
+    Ping,
 }
 
 impl EntryWord {
@@ -38,6 +39,8 @@ impl EntryWord {
             Some(EntryWord::Stop)
         } else if token == b"stopped".as_slice() {
             Some(EntryWord::Stopped)
+        } else if token == b"ping".as_slice() {
+            Some(EntryWord::Ping)
         } else {
             None
         }
@@ -51,7 +54,7 @@ impl EntryWord {
             EntryWord::Frame | EntryWord::Submit | EntryWord::Drain => 2,
             EntryWord::Timer | EntryWord::Greet | EntryWord::Reports => 1,
             EntryWord::Issue => 4,
-            EntryWord::Stop | EntryWord::Stopped => 0,
+            EntryWord::Stop | EntryWord::Stopped | EntryWord::Ping => 0,
         }
     }
 }

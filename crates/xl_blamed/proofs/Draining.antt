@@ -20,7 +20,7 @@ use Rattle.xl_core.specs.Node.{Node}
 use Rattle.xl_core.specs.Queues.{count_fitting, frames_in, stream_of}
 use Rattle.xl_core.specs.Sending.{blank_frame, has_spelling, sealed_bytes}
 use Rattle.xl_core.specs.declared.event.CoreEvent.{CoreEvent}
-use Rattle.xl_core.specs.declared.event.CoreEvent.TheVariants.{Issue, Frame, Timer, Submit, Relist, Greet, Drain, Reports, Stop, Stopped}
+use Rattle.xl_core.specs.declared.event.CoreEvent.TheVariants.{Issue, Frame, Timer, Submit, Relist, Greet, Drain, Reports, Stop, Stopped, Ping}
 use Rattle.xl_core.proofs.Spelling.{sealed_raw}
 use Rattle.xl_store.specs.declared.entry.Saved.{Saved}
 use Rattle.xl_store.specs.Entries.{entry_of, reply_of}
@@ -141,6 +141,7 @@ read_of P (Greet m) reply drains = All-nil P
 read_of P (Reports room) reply drains = All-nil P
 read_of P Stop reply drains = All-nil P
 read_of P Stopped reply drains = All-nil P
+read_of P Ping reply drains = All-nil P
 
 -- of a right entry each frame that its reply tells was given by the core
 pub entry_gives : (core : Core) (event : CoreEvent) (outcome : Option Saved) (reply : List ℕ)

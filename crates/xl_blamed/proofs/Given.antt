@@ -13,7 +13,7 @@ use Rattle.xl_core.specs.Core.{Core}
 use Rattle.xl_core.specs.CoreLives.{given_over}
 use Rattle.xl_core.specs.Hearing.{spoken_in}
 use Rattle.xl_core.specs.declared.event.CoreEvent.{CoreEvent}
-use Rattle.xl_core.specs.declared.event.CoreEvent.TheVariants.{Issue, Frame, Timer, Submit, Relist, Greet, Drain, Reports, Stop, Stopped}
+use Rattle.xl_core.specs.declared.event.CoreEvent.TheVariants.{Issue, Frame, Timer, Submit, Relist, Greet, Drain, Reports, Stop, Stopped, Ping}
 use Rattle.xl_core.specs.declared.hearing.Spoken.{Spoken}
 use Rattle.xl_core.specs.declared.refusal.Refusal.{Refusal}
 use Rattle.xl_store.specs.Entries.{life_of, reply_of, save_of}
@@ -171,6 +171,7 @@ entry_unforged all k e core (Drain m room) given = tt
 entry_unforged all k e core (Reports room) given = tt
 entry_unforged all k e core Stop given = tt
 entry_unforged all k e core Stopped given = tt
+entry_unforged all k e core Ping given = tt
 
 entries_unforged : (all : List Journal) (k n : ℕ) (core : Core) (ws : List Written) → All (WasGiven all) (over heard_in k n core ws)
     → AreUnforged [] (lives_in (journals_of all)) core (life_of (entries_of ws))

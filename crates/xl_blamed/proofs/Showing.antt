@@ -9,7 +9,7 @@ use Rattle.xl_core.specs.Hearing.{spoken_in}
 use Rattle.xl_core.specs.Node.{at_moment}
 use Rattle.xl_core.specs.declared.deed.Deed.TheVariants as deed
 use Rattle.xl_core.specs.declared.event.CoreEvent.{CoreEvent}
-use Rattle.xl_core.specs.declared.event.CoreEvent.TheVariants.{Issue, Frame, Timer, Submit, Relist, Greet, Drain, Reports, Stop, Stopped}
+use Rattle.xl_core.specs.declared.event.CoreEvent.TheVariants.{Issue, Frame, Timer, Submit, Relist, Greet, Drain, Reports, Stop, Stopped, Ping}
 use Rattle.xl_core.specs.declared.hearing.Speech.{Speech}
 use Rattle.xl_core.specs.declared.hearing.Speech.TheVariants as speech
 use Rattle.xl_core.specs.declared.hearing.Spoken.{Spoken}
@@ -82,6 +82,7 @@ issues_same core (Drain member room) outcome = refl
 issues_same core (Reports room) outcome = refl
 issues_same core Stop outcome = refl
 issues_same core Stopped outcome = refl
+issues_same core Ping outcome = refl
 
 -- THE VALIDATION THAT IS HEARD
 
@@ -111,6 +112,7 @@ hears_same core (Drain member room) = refl
 hears_same core (Reports room) = refl
 hears_same core Stop = refl
 hears_same core Stopped = refl
+hears_same core Ping = refl
 
 pub shows_evidence : ShowsEvidence
 shows_evidence core w =

@@ -16,7 +16,7 @@ use Rattle.xl_lists.proofs.Agreement.{vouches_still, same_id-true}
 use Rattle.xl_lists.proofs.Forking.{liars_shown, vouches_twice}
 use Rattle.xl_wire.specs.declared.validation.Validation.{Validation}
 use Rattle.xl_core.specs.declared.event.CoreEvent.{CoreEvent}
-use Rattle.xl_core.specs.declared.event.CoreEvent.TheVariants.{Issue, Frame, Timer, Submit, Greet, Drain, Reports, Stop, Stopped, Relist}
+use Rattle.xl_core.specs.declared.event.CoreEvent.TheVariants.{Issue, Frame, Timer, Submit, Greet, Drain, Reports, Stop, Stopped, Ping, Relist}
 use Rattle.xl_core.specs.declared.hearing.Spoken.{Spoken}
 use Rattle.xl_core.specs.declared.hearing.Speech.{Speech}
 use Rattle.xl_core.specs.declared.hearing.Speech.TheVariants as speech
@@ -92,6 +92,7 @@ heard_real w p sent (Drain member room) fair = All-nil (IsRealIn w)
 heard_real w p sent (Reports room) fair = All-nil (IsRealIn w)
 heard_real w p sent Stop fair = All-nil (IsRealIn w)
 heard_real w p sent Stopped fair = All-nil (IsRealIn w)
+heard_real w p sent Ping fair = All-nil (IsRealIn w)
 heard_real w p sent (Relist now list) fair = All-nil (IsRealIn w)
 
 issued_real : (P : SaidLedger → Type 0) (i : ℕ) (o : Option Validation) → IfSome o (λ v. P (said_by i v)) → All P (option_to_list (option_map (said_by i) o))

@@ -5,7 +5,7 @@ use Rattle.xl_wire.specs.Lengths.{longest_frame}
 use Rattle.xl_links.specs.Links.{Reading, bytes_of}
 use Rattle.xl_core.specs.declared.event.CoreEvent.{CoreEvent}
 use Rattle.xl_core.specs.declared.event.CoreEvent.TheVariants.{Issue, Frame, Timer, Submit, Greet, Drain, Reports, Stop}
-use Rattle.xl_core.specs.declared.event.CoreEvent.TheVariants.{Stopped, Relist}
+use Rattle.xl_core.specs.declared.event.CoreEvent.TheVariants.{Stopped, Ping, Relist}
 use Rattle.xl_core.specs.Answers.{Answer, Done, Gave, Told, given_in}
 use Rattle.xl_core.specs.Queues.{stream_of}
 use Rattle.xl_store.specs.Calls.{Call}
@@ -67,6 +67,7 @@ handed_by (Drain member room) = []
 handed_by (Reports room) = []
 handed_by Stop = []
 handed_by Stopped = []
+handed_by Ping = []
 handed_by (Relist now list) = []
 
 abbrev pub handed_in : Step → List (List ℕ)

@@ -25,7 +25,7 @@ use Rattle.xl_core.specs.Hearing.{hearing_refusal, said_in, spoken_in}
 use Rattle.xl_core.specs.Node.{Node, Reply, at_moment, bytes_reply, placed_as, proposal_answer, refusal_at, reply_with, reply_unless, second_of, speech_reply, taken_reply}
 use Rattle.xl_core.specs.Refusals.{refusal_from, round_from}
 use Rattle.xl_core.specs.declared.event.CoreEvent.{CoreEvent}
-use Rattle.xl_core.specs.declared.event.CoreEvent.TheVariants.{Issue, Frame, Timer, Submit, Relist, Greet, Drain, Reports, Stop, Stopped}
+use Rattle.xl_core.specs.declared.event.CoreEvent.TheVariants.{Issue, Frame, Timer, Submit, Relist, Greet, Drain, Reports, Stop, Stopped, Ping}
 use Rattle.xl_core.specs.declared.hearing.Speech.{Speech}
 use Rattle.xl_core.specs.declared.hearing.Speech.TheVariants as speech
 use Rattle.xl_core.specs.declared.hearing.Spoken.{Spoken}
@@ -143,3 +143,4 @@ heard_told core (Drain member room) outcome heard told may is = none_heard heard
 heard_told core (Reports room) outcome heard told may is = none_heard heard told may
 heard_told core Stop outcome heard told may is = none_heard heard told may
 heard_told core Stopped outcome heard told may is = none_heard heard told may
+heard_told core Ping outcome heard told may is = none_heard heard told may

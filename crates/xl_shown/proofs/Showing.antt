@@ -11,7 +11,7 @@ use Rattle.xl_core.specs.Lives.{sets_list}
 use Rattle.xl_core.specs.Node as nodes
 use Rattle.xl_core.specs.Node.{Node, happens}
 use Rattle.xl_core.specs.declared.event.CoreEvent.{CoreEvent}
-use Rattle.xl_core.specs.declared.event.CoreEvent.TheVariants.{Issue, Frame, Timer, Submit, Relist, Greet, Drain, Reports, Stop, Stopped}
+use Rattle.xl_core.specs.declared.event.CoreEvent.TheVariants.{Issue, Frame, Timer, Submit, Relist, Greet, Drain, Reports, Stop, Stopped, Ping}
 use Rattle.xl_core.specs.declared.last.LastReport.{LastReport}
 use Rattle.xl_core.specs.declared.report.Report.{Report}
 use Rattle.xl_core.proofs.Reporting.{happens_reports}
@@ -88,6 +88,7 @@ arisen_is core (Drain member room) outcome = none_between core.node.last.report
 arisen_is core (Reports room) outcome = none_between core.node.last.report
 arisen_is core Stop outcome = none_between core.node.last.report
 arisen_is core Stopped outcome = none_between core.node.last.report
+arisen_is core Ping outcome = none_between core.node.last.report
 
 -- THE VALIDATION THAT IS ISSUED
 
@@ -104,3 +105,4 @@ issued_is me (Drain member room) told said is = refl
 issued_is me (Reports room) told said is = refl
 issued_is me Stop told said is = refl
 issued_is me Stopped told said is = refl
+issued_is me Ping told said is = refl

@@ -7,7 +7,7 @@ use Rattle.xl_io.specs.Keepers.{may_hold}
 use Rattle.xl_lists.specs.Lists.{TrustedList, IsValid}
 use Rattle.xl_core.specs.Answers.{Answer, Refused, Took, Beats, Done, Gave, Handed, Told}
 use Rattle.xl_core.specs.declared.event.CoreEvent.{CoreEvent}
-use Rattle.xl_core.specs.declared.event.CoreEvent.TheVariants.{Issue, Frame, Timer, Submit, Greet, Drain, Reports, Stop, Stopped, Relist}
+use Rattle.xl_core.specs.declared.event.CoreEvent.TheVariants.{Issue, Frame, Timer, Submit, Greet, Drain, Reports, Stop, Stopped, Ping, Relist}
 use Rattle.xl_world.specs.declared.place.Fate.{Fate}
 use Rattle.xl_world.specs.declared.place.Place.{Place}
 use Rattle.xl_world.specs.declared.plan.InForce.{InForce}
@@ -49,6 +49,7 @@ set_by-valid i (Drain member room) a fit = none_set
 set_by-valid i (Reports room) a fit = none_set
 set_by-valid i Stop a fit = none_set
 set_by-valid i Stopped a fit = none_set
+set_by-valid i Ping a fit = none_set
 set_by-valid i (Relist now list) a fit = list_set-valid i list fit a
 
 acts_valid : (w : World) (i : ℕ) (e : CoreEvent) (fate : Fate) (o : Option Place) → IsFitEvent e → AreValid w → AreValid (acts w i e fate o)

@@ -66,6 +66,7 @@ deed_unsent core i (deed.Relist now list) save from =
     relist_either (λ r. sent_in from r.answer ≡ []) (at_moment now core.node) list.now (λ _. refl) (λ _. refl)
 deed_unsent core i deed.Stop save from = refl
 deed_unsent core i deed.Stopped save from = refl
+deed_unsent core i deed.Ping save from = refl
 
 -- THE LISTS
 

@@ -23,7 +23,7 @@ use Rattle.xl_rounds.specs.declared.refusal.RoundRefusal.{RoundRefusal}
 use Rattle.xl_core.specs.Building.{said_items}
 use Rattle.xl_core.proofs.Timing.{timing_by, submit_either, relist_either}
 use Rattle.xl_core.specs.declared.event.CoreEvent.{CoreEvent}
-use Rattle.xl_core.specs.declared.event.CoreEvent.TheVariants.{Issue, Frame, Timer, Submit, Greet, Drain, Reports, Stop, Stopped, Relist}
+use Rattle.xl_core.specs.declared.event.CoreEvent.TheVariants.{Issue, Frame, Timer, Submit, Greet, Drain, Reports, Stop, Stopped, Ping, Relist}
 use Rattle.xl_core.specs.declared.hearing.Speech.{Speech}
 use Rattle.xl_core.specs.declared.hearing.Speech.TheVariants as speech
 use Rattle.xl_core.specs.declared.item.Item.{Item}
@@ -81,6 +81,7 @@ core_steps p (Drain member room) fate fit well = beside p (reply_at p (Drain mem
 core_steps p (Reports room) fate fit well = beside p (reply_at p (Reports room) fate) refl refl refl well
 core_steps p Stop fate fit well = beside p (reply_at p Stop fate) refl refl refl well
 core_steps p Stopped fate fit well = beside p (reply_at p Stopped fate) refl refl refl well
+core_steps p Ping fate fit well = beside p (reply_at p Ping fate) refl refl refl well
 core_steps p (Relist now list) fate fit well =
     lifted p.core p.disk (disk_after p (Relist now list) fate) (happens p.core.node (nodes.Relist now list) (answer_of p.disk fate)) (happens_steps (seat p.core p.disk) (nodes.Relist now list) fate fit well)
 
@@ -303,6 +304,7 @@ core_says P core (Drain member room) save says heard fair = drain_says P core me
 core_says P core (Reports room) save says heard fair = record { core = record { rows = says.rows; items = says.items }; sent = All-nil (FrameSays P) }
 core_says P core Stop save says heard fair = record { core = record { rows = says.rows; items = says.items }; sent = All-nil (FrameSays P) }
 core_says P core Stopped save says heard fair = record { core = says; sent = All-nil (FrameSays P) }
+core_says P core Ping save says heard fair = record { core = says; sent = All-nil (FrameSays P) }
 core_says P core (Relist now list) save says heard fair = node_says P core (nodes.Relist now list) save says tt fair
 
 -- a core that is opened has nothing

@@ -199,6 +199,7 @@ said_so core i (deed.Greet peer) save = refl
 said_so core i (deed.Relist now list) save = relist_either (TellsSaid (deed.Relist now list)) (at_moment now core.node) list.now (λ _ member. refl) (λ _ member. refl) core.node.me
 said_so core i deed.Stop save = refl
 said_so core i deed.Stopped save = refl
+said_so core i deed.Ping save = refl
 
 -- the list that was set
 pub set_so : (core : Core) (i : ℕ) (d : Deed) (save : Save) → let r : CoreReply = core_happens core (deed_event i d) save in
@@ -220,6 +221,7 @@ untaken_then core i (deed.Greet peer) save none = none
 untaken_then core i (deed.Relist now list) save none = untaken_is core.untaken (happens core.node (nodes.Relist now list.now) save).report none
 untaken_then core i deed.Stop save none = none
 untaken_then core i deed.Stopped save none = none
+untaken_then core i deed.Ping save none = none
 
 -- the report that is taken is the one that arose
 pub report_left : (a : Core) (r : CoreReply) (given : Option Report) → r.core.untaken.items ≡ option_to_list r.report → a ≡ r.core → option_to_list given ≡ a.untaken.items → given ≡ r.report

@@ -9,7 +9,7 @@ use Rattle.xl_core.specs.Answers.{Done}
 use Rattle.xl_core.specs.Core.{Core, CoreReply, core_reply, core_happens}
 use Rattle.xl_core.specs.Node.{Node, Save, at_moment}
 use Rattle.xl_core.specs.declared.event.CoreEvent.{CoreEvent}
-use Rattle.xl_core.specs.declared.event.CoreEvent.TheVariants.{Issue, Frame, Timer, Submit, Greet, Drain, Reports, Stop, Stopped, Relist}
+use Rattle.xl_core.specs.declared.event.CoreEvent.TheVariants.{Issue, Frame, Timer, Submit, Greet, Drain, Reports, Stop, Stopped, Ping, Relist}
 use Rattle.xl_core.specs.declared.report.Report.{Report}
 use Rattle.xl_core.proofs.Timing.{submit_either, relist_either}
 use Rattle.xl_world.specs.declared.place.Fate.{Fate}
@@ -49,6 +49,7 @@ core_follows core (Drain member room) save ls has = stays ls core.node.me core.n
 core_follows core (Reports room) save ls has = stays ls core.node.me core.node.list core.node.list refl has
 core_follows core Stop save ls has = stays ls core.node.me core.node.list core.node.list refl has
 core_follows core Stopped save ls has = stays ls core.node.me core.node.list core.node.list refl has
+core_follows core Ping save ls has = stays ls core.node.me core.node.list core.node.list refl has
 core_follows core (Relist now list) save ls has =
     let me : ℕ = core.node.me in
     relist_either (λ r. Contains (ls ++ option_to_list (set_by me (Relist now list) r.answer)) (at_node me r.node.list)) (at_moment now core.node) list
