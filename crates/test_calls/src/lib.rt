@@ -12,3 +12,5 @@ mod gates;
 mod rolls;
 #[cfg(test)]
 mod sessions;
+#[cfg(test)]
+mod worlds;
