@@ -5,7 +5,7 @@ mod clock;
 mod frame;
 mod link;
 
-use crate::run::{BEGINNING, words_of};
+use crate::outside::{BEGINNING, Ended, keeper_of, run_node};
 use clock::HeldClock;
 use frame::sealed_frame;
 use link::CountedLink;
@@ -15,11 +15,9 @@ use std::io;
 use std::sync::Wait;
 use std::sync::atomic::AtomicU64;
 use std::thread::Threads;
-use xl_base::{NodeNo, Status};
+use xl_base::NodeNo;
 use xl_board::MemBoards;
-use xl_io::{MemKeeper, MemSink, MemSource};
-use xl_links::{MemHub, OpenGate, PlainLink, Spare};
-use xl_top::{Host, top};
+use xl_links::{MemHub, PlainLink, Spare};
 
 /// Node 1's settings. The keys are those of a schedule.
 const SETTINGS: &str = r#"me = 1
@@ -37,13 +35,6 @@ number = 3
 key = "d23f57b5ad14856e8193d1a3f66b976b7a8b825639df9f5db7c61ef369093e10"
 dial = "192.0.2.3:5103"
 "#;
-
-/// What a run wrote, and how it ended.
-#[derive(Drop)]
-struct Ended {
-    status: Status,
-    output: MemSink,
-}
 
 /// A link of node 1 to the member, with its frame to give.
 fn spare_of<'a>(
@@ -69,36 +60,18 @@ fn run<R: Threads + Wait + Files + Sync>(
     links: Vec<Spare<CountedLink<'_>>>,
     clock: &HeldClock<'_>,
 ) -> Result<Ended, AllocError> {
-    let words = words_of(alloc, "xl node")?;
-    let settings = SETTINGS.as_bytes().to_vec(alloc)?;
-    let mut input = MemSource::new(settings, 61, Vec::new(alloc));
-    let mut output = MemSink::new(alloc, 61, Vec::new(alloc));
-    let Ok(keeper) = MemKeeper::new(alloc, 0, Vec::new(alloc), Vec::new(alloc)) else {
-        return Err(AllocError);
-    };
-    let Ok(mut hub) = MemHub::new(alloc, links, Vec::new(alloc), 2) else {
-        return Err(AllocError);
-    };
-    let host = Host {
-        rt: threads,
+    let hub = MemHub::new(alloc, links, Vec::new(alloc), 2)
+        .ok()
+        .ok_or(AllocError)?;
+    run_node(
+        threads,
         alloc,
-        gate: &OpenGate,
+        SETTINGS,
+        keeper_of(alloc, Vec::new(alloc))?,
+        hub,
+        MemBoards::new(alloc, true),
         clock,
-    };
-    let mut boards = MemBoards::new(alloc, true);
-    let ended = top(
-        &host,
-        &words,
-        &mut input,
-        &mut output,
-        keeper,
-        &mut hub,
-        &mut boards,
-    );
-    Ok(Ended {
-        status: ended.status,
-        output,
-    })
+    )
 }
 
 /// Prints what the run wrote, its status, and whether the clock gave up.

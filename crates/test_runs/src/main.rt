@@ -14,6 +14,7 @@ mod beside;
 mod comparison;
 mod faults;
 mod node_ends;
+mod outside;
 mod run;
 
 use beside::run_beside;

@@ -1,5 +1,5 @@
 // How a node ends if one call of its outside fails.
-use crate::run::{BEGINNING, words_of};
+use crate::outside::{BEGINNING, keeper_of, run_node};
 use std::alloc::{AllocError, Global};
 use std::fs::Files;
 use std::io;
@@ -7,9 +7,7 @@ use std::sync::Wait;
 use std::thread::Threads;
 use xl_base::Status;
 use xl_board::MemBoards;
-use xl_io::{MemKeeper, MemSink, MemSource};
-use xl_links::{MemClock, MemHub, OpenGate, PlainLink};
-use xl_top::{Host, top};
+use xl_links::{MemClock, MemHub, PlainLink};
 
 /// Which call fails, if one does.
 #[derive(Clone, Copy, PartialEq, Eq)]
@@ -51,6 +49,14 @@ impl Failing {
         }
         Ok(calls)
     }
+
+    /// A hub without links.
+    fn hub(self, alloc: Global) -> Result<MemHub<PlainLink>, AllocError> {
+        let failing = self.first_if(Failing::Link, alloc)?;
+        MemHub::new(alloc, Vec::new(alloc), failing, 1)
+            .ok()
+            .ok_or(AllocError)
+    }
 }
 
 /// How a node ends if this call fails.
@@ -59,36 +65,15 @@ fn end<R: Threads + Wait + Files + Sync>(
     alloc: Global,
     failing: Failing,
 ) -> Result<Status, AllocError> {
-    let words = words_of(alloc, "xl node")?;
-    let settings = failing.settings().as_bytes().to_vec(alloc)?;
-    let mut input = MemSource::new(settings, 61, Vec::new(alloc));
-    let mut output = MemSink::new(alloc, 61, Vec::new(alloc));
-    let loads = failing.first_if(Failing::Load, alloc)?;
-    let Ok(keeper) = MemKeeper::new(alloc, 0, loads, Vec::new(alloc)) else {
-        return Err(AllocError);
-    };
-    let links = failing.first_if(Failing::Link, alloc)?;
-    let hub: Result<MemHub<PlainLink>, _> = MemHub::new(alloc, Vec::new(alloc), links, 1);
-    let Ok(mut hub) = hub else {
-        return Err(AllocError);
-    };
-    let mut boards = MemBoards::new(alloc, failing != Failing::Board);
-    let clock = MemClock::new(BEGINNING);
-    let host = Host {
-        rt: threads,
+    let ended = run_node(
+        threads,
         alloc,
-        gate: &OpenGate,
-        clock: &clock,
-    };
-    let ended = top(
-        &host,
-        &words,
-        &mut input,
-        &mut output,
-        keeper,
-        &mut hub,
-        &mut boards,
-    );
+        failing.settings(),
+        keeper_of(alloc, failing.first_if(Failing::Load, alloc)?)?,
+        failing.hub(alloc)?,
+        MemBoards::new(alloc, failing != Failing::Board),
+        &MemClock::new(BEGINNING),
+    )?;
     Ok(ended.status)
 }
 

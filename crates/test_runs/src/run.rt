@@ -1,4 +1,5 @@
 use crate::comparison::{Comparison, compare};
+use crate::outside::{BEGINNING, Ended, Outside, keeper_of, words_of};
 use std::alloc::{AllocError, Global};
 use std::fs::{self, Files};
 use std::io;
@@ -6,12 +7,8 @@ use std::sync::Wait;
 use std::thread::Threads;
 use xl_base::Status;
 use xl_board::MemBoards;
-use xl_io::{MemSink, MemSource, PlainKeeper};
-use xl_links::{MemClock, OpenGate, PlainHub};
-use xl_top::{Host, top};
-
-/// The moment at which the clock in memory begins, in milliseconds.
-pub const BEGINNING: u64 = 1000;
+use xl_io::{MemSink, MemSource};
+use xl_links::{MemClock, PlainHub};
 
 /// Reads and writes are of so few bytes, so that lines are cut anywhere.
 const PIECES: [usize; 2] = [61, 1];
@@ -25,13 +22,6 @@ pub struct Run {
     pub text: Vec<u8>,
 }
 
-/// How a run ended, and what it wrote.
-#[derive(Drop)]
-pub struct Ended {
-    pub status: Status,
-    pub output: MemSink,
-}
-
 impl Run {
     /// The program on the input in memory, in pieces of this many bytes; the reads and the writes of these numbers
     /// fail. Of `node` the keeper, the clock and the links are in memory too; its peers say nothing.
@@ -43,33 +33,16 @@ impl Run {
         reads: Vec<u64>,
         writes: Vec<u64>,
     ) -> Result<Ended, AllocError> {
-        let mut input = MemSource::new(self.input.to_vec(alloc)?, piece, reads);
-        let mut output = MemSink::new(alloc, piece, writes);
-        let Ok(keeper) = PlainKeeper::new(alloc, 0) else {
-            return Err(AllocError);
+        let input = self.input.to_vec(alloc)?;
+        let outside = Outside {
+            words: self.words.as_slice(),
+            keeper: keeper_of(alloc, Vec::new(alloc))?,
+            input: MemSource::new(input, piece, reads),
+            output: MemSink::new(alloc, piece, writes),
+            hub: PlainHub::new(alloc),
+            boards: MemBoards::new(alloc, true),
         };
-        let mut hub = PlainHub::new(alloc);
-        let mut boards = MemBoards::new(alloc, true);
-        let clock = MemClock::new(BEGINNING);
-        let host = Host {
-            rt: threads,
-            alloc,
-            gate: &OpenGate,
-            clock: &clock,
-        };
-        let ended = top(
-            &host,
-            &self.words,
-            &mut input,
-            &mut output,
-            keeper,
-            &mut hub,
-            &mut boards,
-        );
-        Ok(Ended {
-            status: ended.status,
-            output,
-        })
+        Ok(outside.run(threads, alloc, &MemClock::new(BEGINNING)))
     }
 
     /// How the run goes without a fault, in pieces of each length.
@@ -97,15 +70,6 @@ impl Run {
             &self.text,
         )
     }
-}
-
-/// The words of a command line.
-pub fn words_of(alloc: Global, command: &str) -> Result<Vec<String>, AllocError> {
-    let mut words = Vec::new(alloc);
-    for word in command.split_whitespace() {
-        words.push(String::from_str(alloc, word)?)?;
-    }
-    Ok(words)
 }
 
 /// A line of `runs`.
