@@ -13,12 +13,12 @@ HEARTBEATS = (
     (1, 'a heartbeat of an open round that stays open'), (57, 'one that closes, with one transaction pending'),
     (64, 'one below 1,950 ms'), (71, 'one that is ready'),
 )
-# A name, the test of xl_tags, and the function of which the test's first call is counted.
+# A name, the test of test_leaves, and the function of which the test's first call is counted.
 TAGS = (
-    ('a compression', 'tests::tells_a_right_tag_of_anyone', 'sha2::block256::compress'),
-    ('a tag', 'tests::tells_a_right_tag_of_anyone', 'xl_tags::macs::Pads::tag'),
-    ('a seal', 'tests::tells_a_right_tag_of_anyone', 'xl_tags::tests::try_seal'),
-    ('an opening', 'tests::a_frame_is_sealed_and_opened', 'xl_tags::tests::try_open'),
+    ('a compression', 'tags::tells_a_right_tag_of_anyone', 'sha2::block256::compress'),
+    ('a tag', 'tags::tells_a_right_tag_of_anyone', 'xl_tags::macs::Pads::tag'),
+    ('a seal', 'tags::tells_a_right_tag_of_anyone', 'test_leaves::tags::try_seal'),
+    ('an opening', 'tags::a_frame_is_sealed_and_opened', 'test_leaves::tags::try_open'),
 )
 
 
@@ -36,7 +36,7 @@ def line(name, count):
 
 def of_tags():
     """A frame of 87 bytes. A seal has the test of what it requires in it; an opening the split, and a list's keys."""
-    tests = made('xl_tags', 'test')
+    tests = made('test_leaves', 'test')
     for name, test, function in TAGS:
         yield line(name, counting.calls([tests, test], function, 1)[0])
 

@@ -141,8 +141,8 @@ fn made_by_two<W: Threads + Wait + Sync>(
 fn a_session_that_waits_keeps_no_turn(rt: HostRuntime) -> Result<(), Fail> {
     let alloc = rt.alloc();
     let gate = Turnstile::new();
-    let links = (link(alloc)?, link(alloc)?);
     let member = NodeNo::new(2).ok_or("no member")?;
+    let links = (link(alloc)?, link(alloc)?);
     let (store, pass) = stored(alloc, 100, member)?;
     let made = made_by_two(&rt, alloc, store, pass, member, links, &gate);
     assert!(rt; made == Some((2, 2)) && gate.missed.load(Ordering::SeqCst) == 0);

@@ -46,17 +46,20 @@ fn hold<W: Wait>(
     Some((end, counted(store, pass)?.0))
 }
 
-/// Reads find nothing, and later bytes begin no frame.
+/// Two of its reads find nothing, and behind a frame it gives bytes that begin none.
+fn link_of_no_frame(alloc: Global) -> Result<MemLink, Fail> {
+    let mut script = LinkScript::new(alloc);
+    script.idle.extend_from_slice(&[1, 3])?;
+    let mut bytes = FRAME.to_vec(alloc)?;
+    bytes.extend_from_slice(&[0x58, 0x4C, 9])?;
+    Ok(MemLink::new(alloc, bytes, 50, script, 0)?)
+}
+
 #[test]
 fn what_begins_no_frame_ends_a_session(rt: HostRuntime) -> Result<(), Fail> {
     let alloc = rt.alloc();
-    let mut bytes = FRAME.to_vec(alloc)?;
-    bytes.extend_from_slice(&[0x58, 0x4C, 9])?;
-    let mut script = LinkScript::new(alloc);
-    script.idle.push(1)?;
-    script.idle.push(3)?;
-    let mut link = MemLink::new(alloc, bytes, 50, script, 0)?;
     let member = NodeNo::new(2).ok_or("no member")?;
+    let mut link = link_of_no_frame(alloc)?;
     let (store, pass) = stored(alloc, 20, member)?;
     let ended = hold(&rt, alloc, store, pass, member, &mut link);
     assert!(rt; ended == Some((End::Framing(WireRefusal::Version(9)), 1)));
@@ -76,14 +79,19 @@ fn submit_all<W: Wait>(rt: &W, store: &Stored, pass: &mut Pass, count: u8) -> bo
     true
 }
 
-/// The link's second write fails: it has taken a front of what the session drained.
+/// Its second write fails.
+fn link_that_takes_once(alloc: Global) -> Result<MemLink, Fail> {
+    let mut script = LinkScript::new(alloc);
+    script.failing_writes.push(2)?;
+    Ok(MemLink::new(alloc, Vec::new(alloc), 100, script, 0)?)
+}
+
+/// The link has taken a front of what the session drained.
 #[test]
 fn a_failing_write_ends_a_session(rt: HostRuntime) -> Result<(), Fail> {
     let alloc = rt.alloc();
-    let mut script = LinkScript::new(alloc);
-    script.failing_writes.push(2)?;
-    let mut link = MemLink::new(alloc, Vec::new(alloc), 100, script, 0)?;
     let member = NodeNo::new(2).ok_or("no member")?;
+    let mut link = link_that_takes_once(alloc)?;
     let (store, mut pass) = stored(alloc, 20, member)?;
     let sent = submit_all(&rt, &store, &mut pass, 3);
     let ended = hold(&rt, alloc, store, pass, member, &mut link);
@@ -114,20 +122,17 @@ fn attend<W: Wait>(
     Some((served, clock.now(), counted(store, pass)?))
 }
 
-/// Openings that find no peer or fail, a session whose read fails, and sessions until the store is full. Each session
-/// greets, and before each further opening a second is waited.
-#[test]
-fn serving_goes_on_until_the_store_is_full(rt: HostRuntime) -> Result<(), Fail> {
-    let alloc = rt.alloc();
+/// Its first opening finds no peer, the second fails, and so does the first read.
+fn link_that_fails(alloc: Global) -> Result<MemLink, Fail> {
     let mut script = LinkScript::new(alloc);
     script.not_yet.push(1)?;
     script.failing_openings.push(2)?;
     script.failing_reads.push(1)?;
-    let mut link = MemLink::new(alloc, Vec::new(alloc), 1, script, 5)?;
-    let member = NodeNo::new(2).ok_or("no member")?;
-    let (store, pass) = stored(alloc, 12, member)?;
-    let ended = attend(&rt, alloc, store, pass, member, &mut link);
-    assert!(rt; ended == Some((Served::StoreFull(12), 5_000, (0, 3))));
+    Ok(MemLink::new(alloc, Vec::new(alloc), 1, script, 5)?)
+}
+
+/// Whether the link was opened so often, and answered so.
+fn was_opened(link: &MemLink) -> bool {
     let openings = [
         Opening::NotYet,
         Opening::Failed,
@@ -135,6 +140,18 @@ fn serving_goes_on_until_the_store_is_full(rt: HostRuntime) -> Result<(), Fail> 
         Opening::Open,
         Opening::Open,
     ];
-    assert!(rt; link.openings() == Some(openings.as_slice()) && link.faults() == 2);
+    link.openings() == Some(openings.as_slice()) && link.faults() == 2
+}
+
+/// Openings that find no peer or fail, a session whose read fails, and sessions until the store is full. Each session
+/// greets, and before each further opening a second is waited.
+#[test]
+fn serving_goes_on_until_the_store_is_full(rt: HostRuntime) -> Result<(), Fail> {
+    let alloc = rt.alloc();
+    let member = NodeNo::new(2).ok_or("no member")?;
+    let mut link = link_that_fails(alloc)?;
+    let (store, pass) = stored(alloc, 12, member)?;
+    let ended = attend(&rt, alloc, store, pass, member, &mut link);
+    assert!(rt; ended == Some((Served::StoreFull(12), 5_000, (0, 3))) && was_opened(&link));
     Ok(())
 }

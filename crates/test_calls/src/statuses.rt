@@ -1,8 +1,8 @@
-use super::*;
 use std::test::Fail;
 use xl_base::{LedgerId, MOST_MEMBERS, NodeNo, Status};
 use xl_core::Report;
 use xl_lists::List;
+use xl_status::{Hearing, Look, Profile, push_status, push_unopened};
 use xl_store::NodeStatus;
 
 /// What node 2 is run with.

@@ -1,9 +1,9 @@
-use super::super::*;
 use super::{crosses, folder};
 use std::fs::{self, Files};
 use std::test::Fail;
 use xl_board::{Board, Boards};
 use xl_io::Failed;
+use xl_keep::{FileBoard, SystemBoards, SystemFile, read_text};
 
 #[test]
 fn a_board_is_a_whole_text(rt: HostRuntime) -> Result<(), Fail> {

@@ -1,7 +1,6 @@
-use super::set_id;
-use crate::{SetId, TxId};
 use hex::FromHex;
 use std::test::Fail;
+use xl_base::{SetId, TxId, set_id};
 
 /// How many of the ids 11.. and 22.. a set has, and its id, computed by Python's hashlib.
 const SETS: [(usize, &str); 3] = [

@@ -1,8 +1,6 @@
-use super::forks;
-use crate::words::words_of;
-use crate::{Equivocation, Reported, Said, equivocations};
 use std::test::Fail;
 use xl_base::{LedgerId, NodeNo};
+use xl_forks::{Equivocation, Reported, Said, equivocations, forks, words_of};
 use xl_lists::List;
 
 /// The ledgers of sequence 1.

@@ -1,5 +1,5 @@
-use super::*;
 use std::test::Fail;
+use xl_queues::{Broadcast, Queue};
 
 #[test]
 fn a_full_queue_drops_its_oldest(rt: HostRuntime) -> Result<(), Fail> {

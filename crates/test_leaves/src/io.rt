@@ -1,6 +1,9 @@
-use super::*;
 use std::io::{self, ErrorKind, Read, Write};
 use std::test::Fail;
+use xl_io::{
+    Discard, Failed, Keeper, MemKeeper, MemSink, MemSource, Piece, PlainKeeper, PlainSource, Sink,
+    Source, StdSink, StdSource, Wrote, write_all,
+};
 
 #[test]
 fn a_reader_is_read_to_its_end(rt: HostRuntime) -> Result<(), Fail> {

@@ -1,9 +1,12 @@
-use super::*;
 use std::alloc::Global;
 use std::test::Fail;
 use std::thread;
 use xl_base::{NodeNo, OutOfMemory};
 use xl_io::{Failed, Wrote};
+use xl_links::{
+    Clock, Gate, Hub, Link, LinkRead, LinkScript, MemClock, MemHub, MemLink, OpenGate, Opening,
+    PlainHub, PlainLink, Spare, Way,
+};
 
 #[test]
 fn openings_are_answered_by_their_numbers(rt: HostRuntime) -> Result<(), Fail> {

@@ -1,10 +1,13 @@
 ghost use Rattle.std.specs.Prelude.{◌≡◌, ◌<◌, ◌≤◌, length, IfOk};
 
-use super::*;
 use hex::FromHex;
 use std::process::Abort;
 use std::test::Fail;
 use xl_base::{LedgerId, SetId};
+use xl_ledger::{
+    AddRefusal, GREATEST_LIMIT, Header, LedgerNo, Registry, build_next, header_bytes, id_of,
+    read_header, root_header,
+};
 
 /// The first header of the real network, and its id.
 const GENESIS: &str =
@@ -119,7 +122,9 @@ fn finds_far_ancestors_a_million_times(rt: HostRuntime) -> Result<(), Fail> {
     for _ in 0..5 {
         for seq in 0..top {
             let mut walk = registry.walk();
-            assert_eq!(rt; walk.ancestor(last, seq), LedgerNo::at(seq));
+            let found = walk.ancestor(last, seq);
+            // Its chain was added first.
+            assert!(rt; found <= last && walk.seq_of(found) == seq);
             assert!(rt; walk.taken() <= 18);
         }
     }

@@ -1,6 +1,6 @@
-use super::half512;
 use hex::FromHex;
 use std::test::Fail;
+use xl_base::half512;
 
 /// A message's bytes and its half hash, as hexadecimal digits.
 const VECTORS: [(&str, &str); 4] = [

@@ -1,5 +1,5 @@
-use super::*;
 use std::test::Fail;
+use xl_board::{Board, Boards, MemBoard, MemBoards};
 use xl_io::Failed;
 
 #[test]

@@ -1,6 +1,5 @@
 mod boards;
 
-use super::*;
 use std::alloc::Allocator;
 use std::fs::{self, File, Files, Metadata, OpenFile, OpenOptions};
 use std::io::{self, Read, Seek, SeekFrom, Write};
@@ -9,6 +8,7 @@ use std::sync::atomic::{AtomicU64, Ordering};
 use std::test::Fail;
 use std::time::{Clock, Duration};
 use xl_io::{Failed, Keeper};
+use xl_keep::{FileKeeper, Lockable, MemFile, SystemFile};
 
 /// A new folder of this name among the system's temporary ones.
 fn folder(rt: &HostRuntime, name: &str) -> Result<String, Fail> {

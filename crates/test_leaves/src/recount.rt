@@ -1,7 +1,7 @@
-use super::Plain;
 use std::test::Fail;
 use xl_base::{LedgerId, NodeNo};
 use xl_ledger::{Branch, Header, LedgerNo, Registry, id_of, root_header};
+use xl_recount::Plain;
 
 /// A ledger that follows another.
 fn child(parent: LedgerId, seq: u32, mark: u8) -> Header {

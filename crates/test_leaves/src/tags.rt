@@ -2,11 +2,11 @@ ghost use Rattle.std.specs.Prelude.{◌<◌, IsTrue, IfSome};
 ghost use Rattle.xl_wire.specs.Raws.{SpellsRaw, raw_frame};
 ghost use Rattle.xl_tags.specs.Sealing.{IsToSeal};
 
-use super::*;
 use hex::FromHex;
 use std::test::Fail;
 use xl_base::{LedgerId, NodeNo};
 use xl_lists::List;
+use xl_tags::{Keys, TagRefusal, hmac, is_sealed, open, pair_key, seal};
 use xl_wire::{Body, Frame, Parted, Raw, Validation, encode, split};
 
 /// A key, bytes, and their tag: RFC 4231's cases 1 to 4, 6 and 7.
@@ -144,7 +144,7 @@ fn is_to_seal(keys: &Keys, to: NodeNo, bytes: &[u8]) -> bool
     ensures { IsTrue result → IsToSeal keys.now to bytes.now }
 {
     match one_frame(bytes) {
-        Some(raw) => raw.from == keys.me().get() && raw.to == to.get() && keys.knows(to.get()),
+        Some(raw) => raw.from == keys.me().get() && raw.to == to.get() && keys.has(to),
         None => false,
     }
 }
