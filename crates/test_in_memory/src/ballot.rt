@@ -38,11 +38,12 @@ impl<B: Branch + Drop> Ballot<B> {
     {
         let registry = Registry::open(alloc, 96)?;
         registry.len();
+        let branch = B::open(alloc, 12)?;
         Ok(Ballot {
             registry,
             ids: Vec::new(alloc),
             cast: Vec::new(alloc),
-            branch: B::open(alloc, 12)?,
+            branch,
         })
     }
 
@@ -139,16 +140,18 @@ impl<B: Branch + Drop> Ballot<B> {
     }
 }
 
-/// After how many of so many calls two forms differ that are opened here.
-fn differing_from<A: Branch + Drop, B: Branch + Drop>(
-    alloc: Global,
+/// After how many of so many calls two forms differ.
+fn count_differing<A: Branch + Drop, B: Branch + Drop>(
+    one: &mut Ballot<A>,
+    other: &mut Ballot<B>,
     seed: u64,
     calls: u64,
-) -> Result<u64, OutOfMemory> {
+) -> Result<u64, OutOfMemory>
+    requires one { IsReady A.goes_with A.votes A.room one.old }
+    requires other { IsReady B.goes_with B.votes B.room other.old }
+{
     let mut dice = Dice { state: seed };
     let mut again = Dice { state: seed };
-    let mut one: Ballot<A> = Ballot::open(alloc)?;
-    let mut other: Ballot<B> = Ballot::open(alloc)?;
     let mut differ: u64 = 0;
     for _ in 0..calls {
         one.call(&mut dice)?;
@@ -158,6 +161,17 @@ fn differing_from<A: Branch + Drop, B: Branch + Drop>(
         }
     }
     Ok(differ)
+}
+
+/// The same of two forms that are opened here.
+fn differing_from<A: Branch + Drop, B: Branch + Drop>(
+    alloc: Global,
+    seed: u64,
+    calls: u64,
+) -> Result<u64, OutOfMemory> {
+    let mut one: Ballot<A> = Ballot::open(alloc)?;
+    let mut other: Ballot<B> = Ballot::open(alloc)?;
+    count_differing(&mut one, &mut other, seed, calls)
 }
 
 /// The same of calls for each 250 of which the forms are opened anew.

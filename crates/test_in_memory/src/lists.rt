@@ -59,8 +59,12 @@ impl Lists {
 
     /// Whether these ids are our own set, and this is its id.
     pub fn owns(&self, ids: &[TxId], id: SetId) -> bool {
-        let is_own = |set: &Counted| set.place == 0 && set.id == id && set.ids.as_slice() == ids;
-        self.sets.iter().any(is_own)
+        for set in &self.sets {
+            if set.place == 0 && set.id == id && set.ids.as_slice() == ids {
+                return true;
+            }
+        }
+        false
     }
 
     /// What the counted set of this id says of the transaction, if there is one.

@@ -39,11 +39,17 @@ fn run_all<R: Threads + Wait + Sync>(rt: &HostRuntime, threads: &R) -> io::Resul
     }
 }
 
-fn main(rt: HostRuntime) -> io::Result<()> {
+/// The words of the command line.
+fn read_words(rt: &HostRuntime) -> io::Result<Vec<String>> {
     let mut words: Vec<String> = Vec::new(rt.alloc());
-    for word in env::args(&rt)? {
+    for word in env::args(rt)? {
         words.push(word)?;
     }
+    Ok(words)
+}
+
+fn main(rt: HostRuntime) -> io::Result<()> {
+    let words = read_words(&rt)?;
     match words.get(1) {
         Some(kind) => measured::run(&rt, &rt, kind.as_str(), &words),
         None => run_all(&rt, &rt),

@@ -8,6 +8,7 @@ use std::alloc::Global;
 use std::io;
 use std::sync::Wait;
 use std::thread::Threads;
+use xl_ledger::Branch;
 use xl_recount::Plain;
 use xl_trie::Trie;
 
@@ -41,6 +42,25 @@ fn count_turns<W: Threads + Wait + Sync>(
     }
 }
 
+/// Members vote by a form of a branch: whether a ledger is preferred.
+fn count_votes<B: Branch + Drop>(alloc: Global, words: &[String]) -> Option<bool> {
+    let members = small(words, 2, 64);
+    let ledgers = small(words, 3, 1_000_000);
+    let voting = small(words, 4, members);
+    votes::run::<B>(alloc, members, ledgers, voting, number(words, 5) > 0)
+}
+
+/// The kinds that need no thread.
+fn count_alone(alloc: Global, kind: &str, words: &[String]) -> Option<bool> {
+    let members = small(words, 2, 64);
+    match kind {
+        "plain" => count_votes::<Plain>(alloc, words),
+        "trie" => count_votes::<Trie>(alloc, words),
+        "alike" => sets::alike(alloc, members),
+        _ => sets::different(alloc, members as u8),
+    }
+}
+
 /// Does what the words say, and prints what came of it.
 pub fn run<R: Threads + Wait + Sync>(
     rt: &HostRuntime,
@@ -49,26 +69,14 @@ pub fn run<R: Threads + Wait + Sync>(
     words: &[String],
 ) -> io::Result<()> {
     let alloc = rt.alloc();
-    let members = small(words, 2, 64);
-    let ledgers = small(words, 3, 1_000_000);
-    let voting = small(words, 4, members);
-    let asks = number(words, 5) > 0;
     match kind {
-        "plain" => println!(rt;
-            "{:?}",
-            votes::run::<Plain>(alloc, members, ledgers, voting, asks)
-        ),
-        "trie" => println!(rt;
-            "{:?}",
-            votes::run::<Trie>(alloc, members, ledgers, voting, asks)
-        ),
         "seven" => seven::run(rt),
-        "alike" => println!(rt; "{:?}", sets::alike(alloc, members)),
-        "different" => println!(rt; "{:?}", sets::different(alloc, members as u8)),
-        "core" | "entries" | "store" | "unkept" => println!(rt;
-            "{:?}",
-            count_turns(threads, alloc, kind, words)
-        ),
+        "plain" | "trie" | "alike" | "different" => {
+            println!(rt; "{:?}", count_alone(alloc, kind, words))
+        }
+        "core" | "entries" | "store" | "unkept" => {
+            println!(rt; "{:?}", count_turns(threads, alloc, kind, words))
+        }
         _ => println!(rt;
             "seven, plain, trie, alike, different, core, entries, store or unkept, and numbers"
         ),

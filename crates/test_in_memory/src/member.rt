@@ -29,6 +29,7 @@ pub struct Member {
 impl Member {
     /// A validator of this number, with this list.
     pub fn open(alloc: Global, me: NodeNo, list: &List) -> Result<Member, OutOfMemory> {
+        let keeper = PlainKeeper::new(alloc, SAVES)?;
         // What every list is, for whose members there are keys.
         let _ = list.quorum();
         let settings = Settings {
@@ -41,7 +42,7 @@ impl Member {
         };
         Ok(Member {
             core: Core::open(alloc, settings, OPENING, 0)?,
-            keeper: PlainKeeper::new(alloc, SAVES)?,
+            keeper,
         })
     }
 

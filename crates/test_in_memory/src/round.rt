@@ -107,22 +107,44 @@ fn are_alike(index: &mut Disputes, lists: &Lists, dice: &mut Dice, txs: &[TxId])
     alike
 }
 
-/// After how many of so many calls the index and the lists differ.
-pub fn differing(alloc: Global, calls: u64) -> Result<u64, OutOfMemory> {
+/// One call on both, with a set of some transactions. Eight sets are about at a time.
+fn call_with_set(
+    alloc: Global,
+    index: &mut Disputes,
+    lists: &mut Lists,
+    dice: &mut Dice,
+    txs: &[TxId],
+    number: u64,
+) -> Result<(), OutOfMemory> {
+    let seed = (number / 500 * 8).wrapping_add(dice.below(8) as u64);
+    let set = some_set(alloc, &mut Dice { state: seed }, txs)?;
+    call(index, lists, dice, &set)
+}
+
+/// After how many of so many calls both differ.
+fn count_differing(
+    alloc: Global,
+    index: &mut Disputes,
+    lists: &mut Lists,
+    txs: &[TxId],
+    calls: u64,
+) -> Result<u64, OutOfMemory> {
     let mut dice = Dice { state: calls };
-    let txs = all_txs(alloc)?;
-    let mut index = Disputes::open(alloc)?;
-    let mut lists = Lists::open(alloc)?;
     let mut differ: u64 = 0;
     for number in 0..calls {
-        // Eight sets are about at a time.
-        let seed = (number / 500 * 8).wrapping_add(dice.below(8) as u64);
-        let set = some_set(alloc, &mut Dice { state: seed }, &txs)?;
-        call(&mut index, &mut lists, &mut dice, &set)?;
-        let same = dice.below(6) > 0 || update(&mut index, &mut lists, &mut dice, &txs)?;
-        if !same || !are_alike(&mut index, &lists, &mut dice, &txs) {
+        call_with_set(alloc, index, lists, &mut dice, txs, number)?;
+        let same = dice.below(6) > 0 || update(index, lists, &mut dice, txs)?;
+        if !same || !are_alike(index, lists, &mut dice, txs) {
             differ = differ.saturating_add(1);
         }
     }
     Ok(differ)
+}
+
+/// After how many of so many calls the index and the lists differ, both of which are opened here.
+pub fn differing(alloc: Global, calls: u64) -> Result<u64, OutOfMemory> {
+    let txs = all_txs(alloc)?;
+    let mut lists = Lists::open(alloc)?;
+    let mut index = Disputes::open(alloc)?;
+    count_differing(alloc, &mut index, &mut lists, &txs, calls)
 }

@@ -18,13 +18,18 @@ const SECONDS: Millis = 14;
 
 const TX: TxId = TxId([0xA1; 32]);
 
+/// Opens one more member, or None if memory runs out.
+fn open_one(members: &mut Vec<Member>, alloc: Global, number: u32, list: &List) -> Option<()> {
+    let member = Member::open(alloc, NodeNo::new(number)?, list).ok()?;
+    members.push(member).ok()
+}
+
 /// The seven, who trust each other, or None if memory runs out.
 fn open_all(alloc: Global) -> Option<Vec<Member>> {
     let list = List::new(&NUMBERS, default_quorum(7)).ok()?;
     let mut members = Vec::new(alloc);
     for number in NUMBERS {
-        let member = Member::open(alloc, NodeNo::new(number)?, &list).ok()?;
-        members.push(member).ok()?;
+        open_one(&mut members, alloc, number, &list)?;
     }
     Some(members)
 }

@@ -52,25 +52,37 @@ fn all_vote<B: Branch>(
     }
 }
 
-/// Members vote, as many as are voting, and the ledger that they prefer is asked for.
+/// Ledgers are added, and members vote for the last of them: whether one is preferred, if that is asked.
+fn vote_for_last<B: Branch + Drop>(
+    alloc: Global,
+    registry: &mut Registry,
+    members: u32,
+    ledgers: u32,
+    voting: u32,
+    asks: bool,
+) -> Option<bool>
+    requires some { 0 < length registry.old.headers }
+    requires few { members ≤ 64 }
+    requires within { voting ≤ members }
+{
+    let last = grow(registry, ledgers)?;
+    registry.len();
+    let mut branch = B::open(alloc, members).ok()?;
+    all_vote(&mut branch, registry, last, members, voting);
+    Some(asks && branch.preferred(&mut registry.walk(), 0).is_some())
+}
+
+/// Members vote, as many as are voting, on a chain of this many ledgers.
 pub fn run<B: Branch + Drop>(
     alloc: Global,
     members: u32,
     ledgers: u32,
     voting: u32,
     asks: bool,
-) -> Option<LedgerNo>
+) -> Option<bool>
     requires few { members ≤ 64 }
     requires within { voting ≤ members }
 {
     let mut registry = Registry::open(alloc, GREATEST_LIMIT).ok()?;
-    let last = grow(&mut registry, ledgers)?;
-    registry.len();
-    let mut branch = B::open(alloc, members).ok()?;
-    all_vote(&mut branch, &registry, last, members, voting);
-    if asks {
-        branch.preferred(&mut registry.walk(), 0)
-    } else {
-        None
-    }
+    vote_for_last::<B>(alloc, &mut registry, members, ledgers, voting, asks)
 }

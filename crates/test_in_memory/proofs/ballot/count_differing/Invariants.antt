@@ -1,5 +1,5 @@
 use Rattle.test_in_memory.specs.Ballots.{IsReady}
-use Rattle.test_in_memory.proofs.ballot.differing_from.Given as goal
+use Rattle.test_in_memory.proofs.ballot.count_differing.Given as goal
 
 -- both forms have the votes that they were given
 abbrev pub invariant-loop : goal.invariant-loop
