@@ -92,7 +92,6 @@ plain event.Stopped = codes "stopped"
 
 plain_is : (e : CoreEvent) → event_text e ≡ plain e
 plain_is (event.Frame now bytes) = ap (λ (xs : List ℕ). codes "frame " ++ xs) (append_assoc (decimal now) space (bytes_text bytes))
-plain_is (event.Timer now) = refl
 plain_is (event.Submit now tx) = ap (λ (xs : List ℕ). codes "submit " ++ xs) (append_assoc (decimal now) space (encode_lower tx.0))
 plain_is (event.Issue now seq id full) =
     ap (λ (xs : List ℕ). codes "issue " ++ xs) (four_parts (decimal now) (decimal seq) (encode_lower id.0) (kind_text full))
@@ -104,11 +103,8 @@ plain_is (event.Relist now list) =
   where
     three_parts : (a b c : List ℕ) → a ++ space ++ b ++ space ++ c ≡ a ++ 32 ∷ (b ++ 32 ∷ c)
     three_parts a b c = simp append_assoc
-plain_is (event.Greet member) = refl
 plain_is (event.Drain member room) = ap (λ (xs : List ℕ). codes "drain " ++ xs) (append_assoc (decimal member) space (decimal room))
-plain_is (event.Reports room) = refl
-plain_is event.Stop = refl
-plain_is event.Stopped = refl
+plain_is other = refl
 
 plain_tokens : (e : CoreEvent) → tokens (plain e) ≡ event_words e
 plain_tokens (event.Frame now bytes) =
@@ -132,8 +128,7 @@ plain_tokens (event.Greet member) = last_word (codes "greet") (decimal member) (
 plain_tokens (event.Drain member room) =
     number_then (codes "drain") member (decimal room) (decimal room ∷ []) (one_token (decimal room) (decimal_word room))
 plain_tokens (event.Reports room) = last_word (codes "reports") (decimal room) (decimal_word room)
-plain_tokens event.Stop = refl
-plain_tokens event.Stopped = refl
+plain_tokens other = refl
 
 event_tokens : (e : CoreEvent) → tokens (event_text e) ≡ event_words e
 event_tokens e = ap tokens (plain_is e) ∙ plain_tokens e
@@ -182,8 +177,7 @@ plain_line (event.Relist now list) =
 plain_line (event.Greet member) = decimal_line member
 plain_line (event.Drain member room) = both_lines (decimal member) (32 ∷ decimal room) (decimal_line member) (decimal_line room)
 plain_line (event.Reports room) = decimal_line room
-plain_line event.Stop = refl
-plain_line event.Stopped = refl
+plain_line other = refl
 
 event_line : (e : CoreEvent) → is_line (event_text e) ≡ true
 event_line e = ap is_line (plain_is e) ∙ plain_line e
@@ -335,15 +329,7 @@ entry_again core w allowed stored outcome counted =
 -- no key's word stands first
 no_key : (e : CoreEvent) (rest : List (List ℕ)) → bytes_eq (first (event_words e ++ rest)) (codes "key") ≡ false
 no_key (event.Frame now bytes) rest = refl
-no_key (event.Timer now) rest = refl
-no_key (event.Submit now tx) rest = refl
-no_key (event.Issue now seq id full) rest = refl
-no_key (event.Relist now list) rest = refl
-no_key (event.Greet member) rest = refl
-no_key (event.Drain member room) rest = refl
-no_key (event.Reports room) rest = refl
-no_key event.Stop rest = refl
-no_key event.Stopped rest = refl
+no_key other rest = refl
 
 pub is_no_key : (w : Written) → bytes_eq (first (tokens (entry_text w))) (codes "key") ≡ false
 is_no_key w =

@@ -110,8 +110,7 @@ module _ (core : Core) where
       (at_least longest_frame (word_at args 1)) (λ room l. (h, l)))
   event_fits word.Reports args =
       then_ (IsAllowed core) (number_from 0 (word_at args 0)) _ (λ room. tt)
-  event_fits word.Stop args = tt
-  event_fits word.Stopped args = tt
+  event_fits other args = tt
 
 failure_counted : (token : List ℕ) → Holds IsCounted (failure_of token)
 failure_counted token =

@@ -18,15 +18,12 @@ IsMember m = (1 ≤ m) × (m ≤ 64)
 
 abbrev pub IsStoredEvent : CoreEvent → Type 0
 IsStoredEvent (event.Frame now bytes) = IsBytes bytes
-IsStoredEvent (event.Timer now) = Unit {0}
 IsStoredEvent (event.Submit now tx) = IsId tx.0
 IsStoredEvent (event.Issue now seq id full) = (seq < 2 ^ 32) × IsId id.0
-IsStoredEvent (event.Relist now list) = Unit {0}
 IsStoredEvent (event.Greet member) = IsMember member
 IsStoredEvent (event.Drain member room) = IsMember member × (room < 2 ^ 64)
 IsStoredEvent (event.Reports room) = room < 2 ^ 64
-IsStoredEvent event.Stop = Unit {0}
-IsStoredEvent event.Stopped = Unit {0}
+IsStoredEvent other = Unit {0}
 
 abbrev pub IsStoredOutcome : Option Saved → Type 0
 IsStoredOutcome None = Unit {0}

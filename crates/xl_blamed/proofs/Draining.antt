@@ -132,15 +132,7 @@ drain_gives core m room outcome reply is =
 read_of : (P : List ℕ → Type 0) (event : CoreEvent) (reply : List ℕ)
     → ((m room : ℕ) → event ≡ Drain m room → All P (frames_of (bytes_told (decode_of reply)))) → All P (frames_of (showing.given_in event reply))
 read_of P (Drain m room) reply drains = drains m room refl
-read_of P (Frame now bytes) reply drains = All-nil P
-read_of P (Issue now seq id full) reply drains = All-nil P
-read_of P (Timer now) reply drains = All-nil P
-read_of P (Submit now tx) reply drains = All-nil P
-read_of P (Relist now list) reply drains = All-nil P
-read_of P (Greet m) reply drains = All-nil P
-read_of P (Reports room) reply drains = All-nil P
-read_of P Stop reply drains = All-nil P
-read_of P Stopped reply drains = All-nil P
+read_of P other reply drains = All-nil P
 
 -- of a right entry each frame that its reply tells was given by the core
 pub entry_gives : (core : Core) (event : CoreEvent) (outcome : Option Saved) (reply : List ℕ)

@@ -162,15 +162,7 @@ entry_unforged all k e core (Frame now bytes) given = by (spoken_in core.node.ke
         → IfOk r (λ said. IsTrue (is_on [] said.from) ⊎ Contains (given_by (lives_in (journals_of all) said.from)) bytes)
     by (Ok said) heard = inr (All-head (WasGiven all) (noted_as said.from k e bytes) [] heard)
     by (Err why) heard = tt
-entry_unforged all k e core (Issue now seq id full) given = tt
-entry_unforged all k e core (Timer now) given = tt
-entry_unforged all k e core (Submit now tx) given = tt
-entry_unforged all k e core (Relist now list) given = tt
-entry_unforged all k e core (Greet m) given = tt
-entry_unforged all k e core (Drain m room) given = tt
-entry_unforged all k e core (Reports room) given = tt
-entry_unforged all k e core Stop given = tt
-entry_unforged all k e core Stopped given = tt
+entry_unforged all k e core other given = tt
 
 entries_unforged : (all : List Journal) (k n : ℕ) (core : Core) (ws : List Written) → All (WasGiven all) (over heard_in k n core ws)
     → AreUnforged [] (lives_in (journals_of all)) core (life_of (entries_of ws))

@@ -77,11 +77,7 @@ issues_same core (Submit now tx) outcome =
     submit_either (λ r. None ≡ option_map (said_by core.node.me) r.issued) (at_moment now core.node) tx (λ _. refl) refl
 issues_same core (Relist now list) outcome =
     relist_either (λ r. None ≡ option_map (said_by core.node.me) r.issued) (at_moment now core.node) list (λ _. refl) (λ _. refl)
-issues_same core (Greet member) outcome = refl
-issues_same core (Drain member room) outcome = refl
-issues_same core (Reports room) outcome = refl
-issues_same core Stop outcome = refl
-issues_same core Stopped outcome = refl
+issues_same core other outcome = refl
 
 -- THE VALIDATION THAT IS HEARD
 
@@ -102,15 +98,7 @@ heard_same (Ok said) = by said.from said.what
 
 hears_same : (core : Core) (event : CoreEvent) → said_heard (heard_in core event) ≡ heard_by core event
 hears_same core (Frame now bytes) = heard_same (spoken_in core.node.keys core.node.list.members bytes)
-hears_same core (Issue now seq id full) = refl
-hears_same core (Timer now) = refl
-hears_same core (Submit now tx) = refl
-hears_same core (Relist now list) = refl
-hears_same core (Greet member) = refl
-hears_same core (Drain member room) = refl
-hears_same core (Reports room) = refl
-hears_same core Stop = refl
-hears_same core Stopped = refl
+hears_same core other = refl
 
 pub shows_evidence : ShowsEvidence
 shows_evidence core w =

@@ -68,7 +68,6 @@ stays_real w (s ∷ ss) x real = stays_real (step w s) ss x (step_stays w s x re
 -- WHAT A STEP SHOWS IS GENUINE BEHIND IT
 
 heard_real : (w : World) (p : Place) → All (FrameSays (IsRealIn w)) w.sent → (e : CoreEvent) → is_forged w p.core.node e ≡ false → All (IsRealIn w) (option_to_list (heard_by p.core e))
-heard_real w p sent (Issue now seq id full) fair = All-nil (IsRealIn w)
 heard_real w p sent (Frame now bytes) fair =
     by_spoken (spoken_in p.core.node.keys p.core.node.list.members bytes)
     (λ from v is. heard_unforged w p.core.node sent bytes fair from v (heard_parts p.core.node.keys p.core.node.list.members bytes (record { from = from; what = speech.Validation v }) is))
@@ -85,14 +84,7 @@ heard_real w p sent (Frame now bytes) fair =
     by_spoken (Err why) real = All-nil (IsRealIn w)
     by_spoken (Ok said) real = by_speech said.from said.what
         (λ v told. real said.from v (ap (λ (u : Speech). let r : Result Spoken Refusal = Ok (record { from = said.from; what = u }) in r) told))
-heard_real w p sent (Timer now) fair = All-nil (IsRealIn w)
-heard_real w p sent (Submit now tx) fair = All-nil (IsRealIn w)
-heard_real w p sent (Greet member) fair = All-nil (IsRealIn w)
-heard_real w p sent (Drain member room) fair = All-nil (IsRealIn w)
-heard_real w p sent (Reports room) fair = All-nil (IsRealIn w)
-heard_real w p sent Stop fair = All-nil (IsRealIn w)
-heard_real w p sent Stopped fair = All-nil (IsRealIn w)
-heard_real w p sent (Relist now list) fair = All-nil (IsRealIn w)
+heard_real w p sent other fair = All-nil (IsRealIn w)
 
 issued_real : (P : SaidLedger → Type 0) (i : ℕ) (o : Option Validation) → IfSome o (λ v. P (said_by i v)) → All P (option_to_list (option_map (said_by i) o))
 issued_real P i None h = All-nil P

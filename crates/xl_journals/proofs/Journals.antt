@@ -16,16 +16,8 @@ use Rattle.xl_journals.specs.Journals.{Journal, life_in, lives_in, IsJournal, Ar
 
 -- what a core is allowed to be asked is fit
 fit_event : (core : Core) (e : CoreEvent) → IsAllowed core e → IsFitEvent e
-fit_event core (Issue now seq id full) allowed = tt
-fit_event core (Frame now bytes) allowed = tt
-fit_event core (Timer now) allowed = tt
-fit_event core (Submit now tx) allowed = tt
 fit_event core (Relist now list) allowed = allowed.1
-fit_event core (Greet member) allowed = tt
-fit_event core (Drain member room) allowed = tt
-fit_event core (Reports room) allowed = tt
-fit_event core Stop allowed = tt
-fit_event core Stopped allowed = tt
+fit_event core other allowed = tt
 
 abbrev FitHappening : CoreHappening → Type 0
 FitHappening h = IsFitEvent h.event

@@ -58,16 +58,8 @@ drained_in (MayTell answer) = []
 
 -- the bytes that an event hands to the core
 abbrev pub handed_by : CoreEvent → List (List ℕ)
-handed_by (Issue now seq id full) = []
 handed_by (Frame now bytes) = bytes ∷ []
-handed_by (Timer now) = []
-handed_by (Submit now tx) = []
-handed_by (Greet member) = []
-handed_by (Drain member room) = []
-handed_by (Reports room) = []
-handed_by Stop = []
-handed_by Stopped = []
-handed_by (Relist now list) = []
+handed_by other = []
 
 abbrev pub handed_in : Step → List (List ℕ)
 handed_in (Called call) = handed_by call.event

@@ -134,12 +134,4 @@ none_heard heard told none = ap (λ h. heard_unless_refused h told) none ∙ eit
 pub heard_told : (core : Core) (event : CoreEvent) (outcome : Option Saved) (heard : Option Heard) (told : Answer) → MayHear core event heard
     → (IsDeed event → told ≡ (reply_of core (entry_of event outcome)).answer) → heard_unless_refused heard told ≡ heard_in core event
 heard_told core (Frame now bytes) outcome heard told may is = frame_told core now bytes heard told may (is tt)
-heard_told core (Issue now seq id full) outcome heard told may is = none_heard heard told may
-heard_told core (Timer now) outcome heard told may is = none_heard heard told may
-heard_told core (Submit now tx) outcome heard told may is = none_heard heard told may
-heard_told core (Relist now list) outcome heard told may is = none_heard heard told may
-heard_told core (Greet member) outcome heard told may is = none_heard heard told may
-heard_told core (Drain member room) outcome heard told may is = none_heard heard told may
-heard_told core (Reports room) outcome heard told may is = none_heard heard told may
-heard_told core Stop outcome heard told may is = none_heard heard told may
-heard_told core Stopped outcome heard told may is = none_heard heard told may
+heard_told core other outcome heard told may is = none_heard heard told may

@@ -83,11 +83,7 @@ arisen_is core (Frame now bytes) outcome = stepped_arisen core.node (nodes.Frame
 arisen_is core (Timer now) outcome = stepped_arisen core.node (nodes.Timer now) (save_of outcome)
 arisen_is core (Submit now tx) outcome = stepped_arisen core.node (nodes.Submit now tx) (save_of outcome)
 arisen_is core (Relist now list) outcome = stepped_arisen core.node (nodes.Relist now list) (save_of outcome)
-arisen_is core (Greet member) outcome = none_between core.node.last.report
-arisen_is core (Drain member room) outcome = none_between core.node.last.report
-arisen_is core (Reports room) outcome = none_between core.node.last.report
-arisen_is core Stop outcome = none_between core.node.last.report
-arisen_is core Stopped outcome = none_between core.node.last.report
+arisen_is core other outcome = none_between core.node.last.report
 
 -- THE VALIDATION THAT IS ISSUED
 
@@ -96,11 +92,4 @@ pub issued_is : (me : ℕ) (event : CoreEvent) (told said : Answer) → (IsDeed 
     → issued_in me event told ≡ issued_in me event said
 issued_is me (Issue now seq id full) told said is = ap (issued_in me (Issue now seq id full)) (is tt)
 issued_is me (Timer now) told said is = ap (issued_in me (Timer now)) (is tt)
-issued_is me (Frame now bytes) told said is = refl
-issued_is me (Submit now tx) told said is = refl
-issued_is me (Relist now list) told said is = refl
-issued_is me (Greet member) told said is = refl
-issued_is me (Drain member room) told said is = refl
-issued_is me (Reports room) told said is = refl
-issued_is me Stop told said is = refl
-issued_is me Stopped told said is = refl
+issued_is me other told said is = refl

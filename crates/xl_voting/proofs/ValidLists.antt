@@ -40,16 +40,8 @@ list_set-valid i list valid (Handed reports) = one_set i list valid
 list_set-valid i list valid (Told stopped) = one_set i list valid
 
 set_by-valid : (i : ℕ) (e : CoreEvent) (a : Answer) → IsFitEvent e → All Valid (option_to_list (set_by i e a))
-set_by-valid i (Issue now seq id full) a fit = none_set
-set_by-valid i (Frame now bytes) a fit = none_set
-set_by-valid i (Timer now) a fit = none_set
-set_by-valid i (Submit now tx) a fit = none_set
-set_by-valid i (Greet member) a fit = none_set
-set_by-valid i (Drain member room) a fit = none_set
-set_by-valid i (Reports room) a fit = none_set
-set_by-valid i Stop a fit = none_set
-set_by-valid i Stopped a fit = none_set
 set_by-valid i (Relist now list) a fit = list_set-valid i list fit a
+set_by-valid i other a fit = none_set
 
 acts_valid : (w : World) (i : ℕ) (e : CoreEvent) (fate : Fate) (o : Option Place) → IsFitEvent e → AreValid w → AreValid (acts w i e fate o)
 acts_valid w i e fate None fit valid = valid

@@ -61,11 +61,9 @@ deed_unsent core i (deed.Sealed now bytes) save from = (frame_plain core.node no
 deed_unsent core i (deed.Timer now) save from = completed_unsent (timer_outcome (at_moment now core.node)) save from
 deed_unsent core i (deed.Submit now tx) save from =
     submit_either (λ r. sent_in from r.answer ≡ []) (at_moment now core.node) tx (λ _. refl) refl
-deed_unsent core i (deed.Greet peer) save from = refl
 deed_unsent core i (deed.Relist now list) save from =
     relist_either (λ r. sent_in from r.answer ≡ []) (at_moment now core.node) list.now (λ _. refl) (λ _. refl)
-deed_unsent core i deed.Stop save from = refl
-deed_unsent core i deed.Stopped save from = refl
+deed_unsent core i other save from = refl
 
 -- THE LISTS
 

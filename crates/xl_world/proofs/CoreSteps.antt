@@ -76,13 +76,9 @@ core_steps p (Timer now) fate fit well =
     lifted p.core p.disk (disk_after p (Timer now) fate) (happens p.core.node (nodes.Timer now) (answer_of p.disk fate)) (happens_steps (seat p.core p.disk) (nodes.Timer now) fate tt well)
 core_steps p (Submit now tx) fate fit well =
     lifted p.core p.disk (disk_after p (Submit now tx) fate) (happens p.core.node (nodes.Submit now tx) (answer_of p.disk fate)) (happens_steps (seat p.core p.disk) (nodes.Submit now tx) fate tt well)
-core_steps p (Greet member) fate fit well = beside p (reply_at p (Greet member) fate) refl refl refl well
-core_steps p (Drain member room) fate fit well = beside p (reply_at p (Drain member room) fate) refl refl refl well
-core_steps p (Reports room) fate fit well = beside p (reply_at p (Reports room) fate) refl refl refl well
-core_steps p Stop fate fit well = beside p (reply_at p Stop fate) refl refl refl well
-core_steps p Stopped fate fit well = beside p (reply_at p Stopped fate) refl refl refl well
 core_steps p (Relist now list) fate fit well =
     lifted p.core p.disk (disk_after p (Relist now list) fate) (happens p.core.node (nodes.Relist now list) (answer_of p.disk fate)) (happens_steps (seat p.core p.disk) (nodes.Relist now list) fate fit well)
+core_steps p other fate fit well = beside p (reply_at p other fate) refl refl refl well
 
 -- a core that is opened again with a number that is not below its disk's
 pub opened_core_steps : (p : Place) (now number : ℕ) (asked : Option ℕ) → IsWell (seat p.core p.disk) → (i : ℕ) × (i ≤ number) × MayHold (held_by p.disk) i →
@@ -298,12 +294,9 @@ core_says P core (Issue now seq id full) save says heard fair = node_says P core
 core_says P core (Frame now bytes) save says heard fair = node_says P core (nodes.Frame now bytes) save says heard fair
 core_says P core (Timer now) save says heard fair = node_says P core (nodes.Timer now) save says tt fair
 core_says P core (Submit now tx) save says heard fair = node_says P core (nodes.Submit now tx) save says tt fair
-core_says P core (Greet member) save says heard fair = record { core = record { rows = says.rows; items = says.items }; sent = All-nil (FrameSays P) }
 core_says P core (Drain member room) save says heard fair = drain_says P core member room save says
-core_says P core (Reports room) save says heard fair = record { core = record { rows = says.rows; items = says.items }; sent = All-nil (FrameSays P) }
-core_says P core Stop save says heard fair = record { core = record { rows = says.rows; items = says.items }; sent = All-nil (FrameSays P) }
-core_says P core Stopped save says heard fair = record { core = says; sent = All-nil (FrameSays P) }
 core_says P core (Relist now list) save says heard fair = node_says P core (nodes.Relist now list) save says tt fair
+core_says P core other save says heard fair = record { core = record { rows = says.rows; items = says.items }; sent = All-nil (FrameSays P) }
 
 -- a core that is opened has nothing
 pub opened_core_says : (P : SaidLedger → Type 0) (settings : Settings) (now kept : ℕ) → CoreSays P (with_queues (opened_node settings now kept))

@@ -195,10 +195,8 @@ said_so core i (deed.Frame now bytes) save = ap (option_map (said_by core.node.m
 said_so core i (deed.Sealed now bytes) save = ap (option_map (said_by core.node.me)) (sym (frame_quiet core.node now (bytes_as_sealed (schedule_ring i) bytes.now)))
 said_so core i (deed.Timer now) save = timer_said now (at_moment now core.node) save core.node.me
 said_so core i (deed.Submit now tx) save = submit_either (TellsSaid (deed.Submit now tx)) (at_moment now core.node) tx (λ _ member. refl) (λ member. refl) core.node.me
-said_so core i (deed.Greet peer) save = refl
 said_so core i (deed.Relist now list) save = relist_either (TellsSaid (deed.Relist now list)) (at_moment now core.node) list.now (λ _ member. refl) (λ _ member. refl) core.node.me
-said_so core i deed.Stop save = refl
-said_so core i deed.Stopped save = refl
+said_so core i other save = refl
 
 -- the list that was set
 pub set_so : (core : Core) (i : ℕ) (d : Deed) (save : Save) → let r : CoreReply = core_happens core (deed_event i d) save in
@@ -216,10 +214,8 @@ untaken_then core i (deed.Frame now bytes) save none = untaken_is core.untaken (
 untaken_then core i (deed.Sealed now bytes) save none = untaken_is core.untaken (happens core.node (nodes.Frame now (bytes_as_sealed (schedule_ring i) bytes.now)) save).report none
 untaken_then core i (deed.Timer now) save none = untaken_is core.untaken (happens core.node (nodes.Timer now) save).report none
 untaken_then core i (deed.Submit now tx) save none = untaken_is core.untaken (happens core.node (nodes.Submit now tx) save).report none
-untaken_then core i (deed.Greet peer) save none = none
 untaken_then core i (deed.Relist now list) save none = untaken_is core.untaken (happens core.node (nodes.Relist now list.now) save).report none
-untaken_then core i deed.Stop save none = none
-untaken_then core i deed.Stopped save none = none
+untaken_then core i other save none = none
 
 -- the report that is taken is the one that arose
 pub report_left : (a : Core) (r : CoreReply) (given : Option Report) → r.core.untaken.items ≡ option_to_list r.report → a ≡ r.core → option_to_list given ≡ a.untaken.items → given ≡ r.report

@@ -44,15 +44,11 @@ core_follows core (Frame now bytes) save ls has = stays ls core.node.me core.nod
 core_follows core (Timer now) save ls has = stays ls core.node.me core.node.list _ (timer_keeps (at_moment now core.node) save).5 has
 core_follows core (Submit now tx) save ls has =
     stays ls core.node.me core.node.list _ (submit_either (λ r. r.node.list ≡ core.node.list) (at_moment now core.node) tx (λ _. refl) refl) has
-core_follows core (Greet member) save ls has = stays ls core.node.me core.node.list core.node.list refl has
-core_follows core (Drain member room) save ls has = stays ls core.node.me core.node.list core.node.list refl has
-core_follows core (Reports room) save ls has = stays ls core.node.me core.node.list core.node.list refl has
-core_follows core Stop save ls has = stays ls core.node.me core.node.list core.node.list refl has
-core_follows core Stopped save ls has = stays ls core.node.me core.node.list core.node.list refl has
 core_follows core (Relist now list) save ls has =
     let me : ℕ = core.node.me in
     relist_either (λ r. Contains (ls ++ option_to_list (set_by me (Relist now list) r.answer)) (at_node me r.node.list)) (at_moment now core.node) list
     (λ _. stays ls me core.node.list core.node.list refl has) (λ _. Contains-push ls (at_node me list))
+core_follows core other save ls has = stays ls core.node.me core.node.list core.node.list refl has
 
 -- A WORLD
 
