@@ -5,13 +5,10 @@ use Rattle.std.specs.Str.{bytes_eq}
 use Rattle.std.proofs.lemmas.Bool.{cond_both}
 use Rattle.std.proofs.lemmas.Slice.Eq.{bytes_eq-Decides}
 use Rattle.xl_lines.specs.Lines.{Line}
-use Rattle.xl_base.specs.Refusals.{unless_refused as list_unless}
-use Rattle.xl_lists.specs.Lists.{TrustedList, IsValid, refusal_of, rising}
-use Rattle.xl_lists.specs.declared.refusal.ListRefusal.{ListRefusal}
-use Rattle.xl_lists.proofs.Rereading.{unrefused}
+use Rattle.xl_lists.specs.Lists.{TrustedList, IsValid}
 use Rattle.xl_tags.specs.Rings.{Ring, no_keys}
 use Rattle.xl_core.specs.Core.{Core}
-use Rattle.xl_sched.specs.Members.{member_of, members_of, trusted_of, unless_refused as trusted_unless}
+use Rattle.xl_sched.specs.Members.{member_of, members_of, trusted_of}
 use Rattle.xl_sched.specs.Numbers.{number_of, number_within}
 use Rattle.xl_sched.specs.Refusals.{◌>>=◌}
 use Rattle.xl_sched.specs.declared.refusal.SchedRefusal.{SchedRefusal}
@@ -30,7 +27,7 @@ use Rattle.xl_audit.specs.declared.judging.Stage.{Stage}
 use Rattle.xl_audit.specs.declared.judging.Stage.TheVariants.{Heading, Setting, Keying, Judging}
 use Rattle.xl_audit.specs.declared.opening.Opening.{Opening}
 use Rattle.xl_audit.specs.declared.written.Written.{Written}
-use Rattle.xl_audit.proofs.Fitting.{Holds, then_}
+use Rattle.xl_audit.proofs.Fitting.{Holds, then_, trusted_fits}
 use Rattle.xl_ledger.specs.Limits.{greatest_limit, least_limit}
 use Rattle.xl_journals.specs.Journals.{Journal}
 use Rattle.xl_evidence.specs.Journals.{IsRightJournal}
@@ -76,15 +73,6 @@ IsCurrent (Goes (Judging core entries)) now lines = IsJudged core entries now li
 IsCurrent (Failed ring place) now lines = HasFailed ring place now lines
 
 -- THE SETTINGS
-
-unless_fits : (cause : Option ListRefusal) (list : TrustedList) → (cause ≡ None → IsValid list)
-    → Holds IsValid (trusted_unless (list_unless cause list))
-unless_fits None list valid = valid refl
-unless_fits (Some why) list valid = tt
-
-trusted_fits : (members : List ℕ) (quorum : ℕ) → Holds IsValid (trusted_of members quorum)
-trusted_fits members quorum =
-    unless_fits (refusal_of members quorum) (record { members = rising members; quorum = quorum }) (unrefused members quorum)
 
 abbrev HasList : Opening → Type 0
 HasList opening = IsValid opening.list

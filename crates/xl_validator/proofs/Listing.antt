@@ -8,7 +8,6 @@ use Rattle.std.proofs.lemmas.List.{map-append}
 use Rattle.std.proofs.lemmas.Bool.Decides.{nat_tests}
 use Rattle.std.proofs.lemmas.Map.Made.{length-le_from_is_member}
 use Rattle.xl_settings.specs.declared.peers.Peer.{Peer}
-use Rattle.xl_settings.specs.Different.{are_different}
 use Rattle.xl_links.specs.Ways.{Target}
 use Rattle.xl_settings.specs.Peers.{PeerSetting, setting_of}
 use Rattle.xl_workers.specs.declared.plan.Contact.{Contact}
@@ -84,15 +83,6 @@ pub are_few : (xs : List ℕ) → IsDistinct nat_eq xs → AllByRecursion (λ m.
 are_few xs once all =
     length-le_from_is_member nat_eq_equiv xs (range_with_len 1 64) once
     (λ q is. let bounds = within xs all q is in stands 64 1 q bounds.0 (omega (arith, bounds.1)))
-
-apart : (x : ℕ) (xs : List ℕ) → list_any (nat_eq x) xs ≡ false → AllByRecursion (λ y. nat_eq x y ≡ false) xs
-apart x [] none = tt
-apart x (y ∷ ys) none = (grind (arith, none), apart x ys (grind (arith, none)))
-
-pub distinct : (xs : List ℕ) → are_different nat_eq xs ≡ true → IsDistinct nat_eq xs
-unfolding IsDistinct
-distinct [] same = tt
-distinct (x ∷ xs) same = (apart x xs (grind (arith, same)), distinct xs (grind (arith, same)))
 
 pub first_off : {A : Type 0} (xs ys : List A) (x : A) → 0 < length xs → x ≡ slice_index_or xs 0 x → ys ≡ remove xs 0
     → xs ≡ x ∷ ys

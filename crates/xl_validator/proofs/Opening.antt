@@ -26,7 +26,8 @@ use Rattle.xl_validator.specs.Contacts.{IsNumber}
 use Rattle.xl_validator.specs.Openings.{Task, number_of, rolls_of, target_at, task_of, pulse_of}
 use Rattle.xl_validator.specs.Preparing.{IsPlan, IsReady, task_in}
 use Rattle.xl_validator.proofs.Sharing.{HasKey}
-use Rattle.xl_validator.proofs.Listing.{are_few, distinct, same_numbers}
+use Rattle.xl_settings.proofs.Fewness.{distinct}
+use Rattle.xl_validator.proofs.Listing.{are_few, same_numbers}
 
 pub not_me : (me : ℕ) (members : List ℕ) (ps : List PeerSetting) → are_peers me members ps ≡ true → is_peer ps me ≡ false
 not_me me members ps are = grind (arith, are)
