@@ -1,19 +1,16 @@
 -- A schedule that runs. Source: this project's schedule language.
-use Rattle.std.specs.Prelude.{ℕ, ◌≤◌, List, [], ◌∷◌, ◌++◌, length, decimal, unwrap_or}
+use Rattle.std.specs.Prelude.{ℕ, ◌≤◌, List, [], ◌∷◌, ◌++◌, length, unwrap_or}
 use Rattle.std.specs.Prelude.{Some, None}
 use Rattle.std.specs.declared.option.Option.{Option}
 use Rattle.xl_base.specs.Moments.{greatest_millis}
 use Rattle.xl_ledger.specs.Limits.{least_limit}
 use Rattle.xl_lines.specs.declared.limits.Limits.{Limits}
-use Rattle.xl_lines.specs.declared.limits.Overrun.{Overrun}
-use Rattle.xl_lines.specs.declared.limits.Overrun.TheVariants as overrun
 use Rattle.xl_lines.specs.declared.limits.Returns.TheVariants.{Dropped}
 use Rattle.xl_sched.specs.declared.event.Event.{Event}
+pub use Rattle.xl_sched.specs.BadLines.{beyond}
 use Rattle.xl_sched.specs.Limits.{most_bytes, most_ledgers, most_lines}
 use Rattle.xl_sched.specs.declared.line.Line.{Line}
 use Rattle.xl_sched.specs.declared.line.Line.TheVariants as line
-use Rattle.xl_sched.specs.declared.refusal.SchedRefusal.{SchedRefusal}
-use Rattle.xl_sched.specs.declared.refusal.SchedRefusal.TheVariants.{LongLine, Limit}
 use Rattle.xl_sched.specs.Reading.{Reading, opened}
 use Rattle.xl_sched.specs.Answers.{LineAnswer, reading_of}
 use Rattle.xl_world.specs.declared.plan.PlanNode.{PlanNode}
@@ -83,10 +80,6 @@ IsInRange (line.Ledger name parent header) = Unit {0}
 IsInRange (line.At at) = Unit {0}
 IsInRange (line.Speak version) = Unit {0}
 IsInRange (line.Event event) = (event.at ≤ greatest_millis) × IsPlausible event.what
-
-abbrev pub beyond : Overrun → SchedRefusal
-beyond overrun.LongLine = LongLine (decimal most_bytes)
-beyond overrun.ManyLines = Limit (decimal most_lines)
 
 abbrev pub limits : Limits
 limits = record { lines = most_lines; bytes = most_bytes; returns = Dropped }

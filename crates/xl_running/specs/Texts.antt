@@ -1,11 +1,10 @@
 -- Lines that every command writes that reads schedules. Source: this project's own formats.
-use Rattle.std.specs.Prelude.{ℕ, List, [], ◌∷◌, ◌++◌, decimal, codes, Option, Some, None}
+use Rattle.std.specs.Prelude.{ℕ, List, [], ◌∷◌, codes, Option, Some, None}
 use Rattle.hex.specs.Hex.{encode_lower}
 use Rattle.xl_base.specs.declared.ids.LedgerId.{LedgerId}
+pub use Rattle.xl_sched.specs.BadLines.{bad_line}
 use Rattle.xl_sched.specs.declared.named.Named.{Named}
-use Rattle.xl_sched.specs.declared.refusal.SchedRefusal.{SchedRefusal}
 use Rattle.xl_sched.specs.Names.{name_of}
-use Rattle.xl_sched.specs.Refusals.{code_of, token_of}
 use Rattle.xl_sched.specs.Tokens.{shown_token}
 
 abbrev pub space : List ℕ
@@ -22,9 +21,3 @@ named_text (Some name) id = shown_token name
 -- an id is printed by the first declared name that stands for it
 abbrev pub id_text : List Named → LedgerId → List ℕ
 id_text names id = named_text (name_of names id.0) id
-
--- a refused line
-abbrev pub bad_line : ℕ → SchedRefusal → List ℕ
-bad_line n refusal =
-    codes "bad " ++ decimal n ++ space ++ decimal (code_of refusal) ++ space ++ shown_token (token_of refusal)
-    ++ newline

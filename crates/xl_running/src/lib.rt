@@ -5,10 +5,11 @@
 //! what is known after a line is a function of what was known before and of the line.
 #![tactic(auto)]
 
+mod limits;
 mod names;
-mod refusals;
 mod running;
 
+pub use limits::LIMITS;
 pub use names::push_id;
-pub use refusals::{LIMITS, beyond, push_bad};
 pub use running::{DEFAULT_LIMIT, DEFAULT_SPEAK, Running};
+pub use xl_sched::{beyond, push_bad};
