@@ -88,14 +88,14 @@ neither a b e f = cc
 seen_not : (seen : List ℕ) (x m : ℕ) → is_on seen m ≡ false → (m == x) ≡ false → is_on (seen ++ x ∷ []) m ≡ false
 seen_not seen x m e f = list_any-append (λ k. m == k) seen (x ∷ []) ∙ neither (is_on seen m) (m == x) e f
 
-none_repeated : (seen xs : List ℕ) → ((m : ℕ) → is_on xs m ≡ true → is_on seen m ≡ false) → IsDistinct nat_eq xs → repeated_after seen xs ≡ None
+pub none_repeated : (seen xs : List ℕ) → ((m : ℕ) → is_on xs m ≡ true → is_on seen m ≡ false) → IsDistinct nat_eq xs → repeated_after seen xs ≡ None
 unfolding IsDistinct
 none_repeated seen [] fresh once = refl
 none_repeated seen (x ∷ xs) fresh once =
     cond-false (is_on seen x) (Some x) (repeated_after (seen ++ x ∷ []) xs) (fresh x (or_left (x == x) (is_on xs x) (itself x)))
     ∙ none_repeated (seen ++ x ∷ []) xs (λ m on. seen_not seen x m (fresh m (or_right (m == x) (is_on xs m) on)) (apart x xs once.0 m on)) once.1
 
-no_cause : (b c d : Bool) (o p : Option ℕ) (x : ListRefusal) (y : ListRefusal) → b ≡ false → c ≡ false → o ≡ None → p ≡ None → d ≡ false →
+pub no_cause : (b c d : Bool) (o p : Option ℕ) (x : ListRefusal) (y : ListRefusal) → b ≡ false → c ≡ false → o ≡ None → p ≡ None → d ≡ false →
     first_of (refused_if b Empty ∷ refused_if c x ∷ option_map OutOfRange o ∷ option_map Repeated p ∷ refused_if d y ∷ []) ≡ None
 no_cause true c d o p x y e f g h k = absurd cc
 no_cause false true d o p x y e f g h k = absurd cc

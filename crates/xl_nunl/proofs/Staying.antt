@@ -13,6 +13,7 @@ use Rattle.xl_lists.specs.Lists.{TrustedList, is_on, is_outside, repeated_after,
 use Rattle.xl_lists.specs.declared.refusal.ListRefusal.{ListRefusal}
 use Rattle.xl_lists.specs.declared.refusal.ListRefusal.TheVariants.{Empty, TooMany, OutOfRange, Repeated, Quorum}
 use Rattle.xl_lists.proofs.Counting.{count_by-cons, count_shared}
+use Rattle.xl_lists.proofs.Rereading.{no_cause, none_repeated}
 use Rattle.xl_nunl.specs.Lists.{IsNegative, least_quorum, staying_up_to, staying_members, list_without, MayBeInForce}
 use Rattle.xl_nunl.proofs.Negative.{distinct_filter, of_filter}
 
@@ -202,40 +203,6 @@ none_outside [] h = refl
 none_outside (x ∷ xs) h =
     cond-false (is_outside x) (Some x) (find is_outside xs) (h x (or_left (x == x) (is_on xs x) (grind (arith, nat_tests))))
     ∙ none_outside xs (λ m on. h m (or_right (m == x) (is_on xs m) on))
-
-apart : (b : ℕ) (bs : List ℕ) → AllByRecursion (λ y. nat_eq b y ≡ false) bs → (m : ℕ) → is_on bs m ≡ true → (m == b) ≡ false
-apart b [] h m on = absurd cc
-apart b (y ∷ ys) h m on =
-    elim (cases_eq m y) [
-      | inl same ↦ grind (arith, nat_tests, h.0)
-      | inr other ↦ apart b ys h.1 m (later (m == y) (is_on ys m) (grind (arith, nat_tests)) on)
-    ]
-  where
-    later : (b c : Bool) → b ≡ false → (b || c) ≡ true → c ≡ true
-    later true c e h = absurd cc
-    later false c e h = h
-
-none_repeated : (seen xs : List ℕ) → ((m : ℕ) → is_on xs m ≡ true → is_on seen m ≡ false) → IsDistinct nat_eq xs → repeated_after seen xs ≡ None
-unfolding IsDistinct
-none_repeated seen [] fresh once = refl
-none_repeated seen (x ∷ xs) fresh once =
-    cond-false (is_on seen x) (Some x) (repeated_after (seen ++ x ∷ []) xs) (fresh x (or_left (x == x) (is_on xs x) (grind (arith, nat_tests))))
-    ∙ none_repeated (seen ++ x ∷ []) xs (λ m on. later m (fresh m (or_right (m == x) (is_on xs m) on)) (apart x xs once.0 m on)) once.1
-  where
-    neither : (a b : Bool) → a ≡ false → b ≡ false → (a || (b || false)) ≡ false
-    neither a b e f = cc
-
-    later : (m : ℕ) → is_on seen m ≡ false → (m == x) ≡ false → is_on (seen ++ x ∷ []) m ≡ false
-    later m e f = list_any-append (λ k. m == k) seen (x ∷ []) ∙ neither (is_on seen m) (m == x) e f
-
-no_cause : (b c d : Bool) (o p : Option ℕ) (x : ListRefusal) (y : ListRefusal) → b ≡ false → c ≡ false → o ≡ None → p ≡ None → d ≡ false →
-    first_of (refused_if b Empty ∷ refused_if c x ∷ option_map OutOfRange o ∷ option_map Repeated p ∷ refused_if d y ∷ []) ≡ None
-no_cause true c d o p x y e f g h k = absurd cc
-no_cause false true d o p x y e f g h k = absurd cc
-no_cause false false true o p x y e f g h k = absurd cc
-no_cause false false false (Some m) p x y e f g h k = absurd cc
-no_cause false false false None (Some m) x y e f g h k = absurd cc
-no_cause false false false None None x y e f g h k = refl
 
 -- members of which nothing is refused are a list, by rising number
 is_list : (members : List ℕ) (quorum : ℕ) → 1 ≤ length members → length members ≤ 64 → find is_outside members ≡ None → repeated_after [] members ≡ None →
