@@ -93,10 +93,12 @@ impl Machine for Replayer {
 
     fn line(&mut self, line: &[u8], _ended: bool, text: &mut String) -> Result<Next, OutOfMemory> {
         // What is read is large, and taken where it stands.
-        match &self.running.read(line) {
-            Ok(None) => Ok(Next::Line),
-            Ok(Some(line)) => {
-                self.take(line, text)?;
+        let mut said = None;
+        match &self.running.read_into(line, &mut said) {
+            Ok(()) => {
+                if let Some(line) = &said {
+                    self.take(line, text)?;
+                }
                 Ok(Next::Line)
             }
             Err(SchedRefusal::OutOfMemory) => Err(OutOfMemory),

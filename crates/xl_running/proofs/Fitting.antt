@@ -1,6 +1,6 @@
 -- A line that is read is in range.
 use Rattle.std.proofs.Common.{ℕ, Option, Some, None, Result, Ok, Err}
-use Rattle.std.specs.Prelude.{IfOk, IfSome}
+use Rattle.std.specs.Prelude.{IfOk, IfSome, OnOk}
 use Rattle.xl_sched.specs.declared.event.What.{What}
 use Rattle.xl_sched.specs.declared.event.What.TheVariants as what
 use Rattle.xl_sched.specs.declared.line.Line.{Line}
@@ -32,3 +32,8 @@ pub read_in_range : (reading : Reading) (sent : ℕ) (r : Result (Option Line) S
 read_in_range reading sent (Ok None) fit = tt
 read_in_range reading sent (Ok (Some l)) fit = fit_in_range reading sent l fit
 read_in_range reading sent (Err e) fit = tt
+
+pub put_in_range : {X : Type 0} (reading : Reading) (sent : ℕ) (r : Result X SchedRefusal) (said : Option Line) → OnOk r (IfSome said (IsFit reading sent)) → OnOk r (IfSome said IsInRange)
+put_in_range reading sent (Ok x) None fit = tt
+put_in_range reading sent (Ok x) (Some l) fit = fit_in_range reading sent l fit
+put_in_range reading sent (Err e) said fit = tt

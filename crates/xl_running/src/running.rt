@@ -94,6 +94,20 @@ impl Running {
         self.reader.read_line(line, sent)
     }
 
+    /// The same, and what the line says is put into its place: it is large, and an answer would copy it.
+    pub fn read_into(&mut self, line: &[u8], said: &mut Option<Line>) -> Result<(), SchedRefusal>
+        requires { said.old ≡ None }
+        ensures read { OnOk result (answer_in self.old line.now ≡ answered said.new self.new.reading) }
+        ensures refused { IfErr result (λ refusal.
+            (refusal ≡ SchedRefusal.OutOfMemory) ⊎ (answer_in self.old line.now ≡ refuses refusal)) }
+        ensures range { OnOk result (IfSome said.new IsInRange) }
+        ensures known { self.new ≡ knows self.old self.new.reading }
+        ensures kept { OnErr result (self.new ≡ self.old) }
+    {
+        let sent = self.sent();
+        self.reader.read_into(line, sent, said)
+    }
+
     /// Reads the next line where its first token is `favor`, for which `read` has no word. None comes exactly for another
     /// line, for line 1, and for a line that is too long or one too many: that line isn't read then.
     pub fn read_favor(&mut self, line: &[u8]) -> Result<Option<Favor>, SchedRefusal>

@@ -112,15 +112,32 @@ impl Reader {
         ensures fit { IfOk result (λ read. IfSome read (IsFit self.old sent)) }
         ensures kept { OnErr result (self.new ≡ self.old) }
     {
-        let alloc = self.alloc;
         let mut said = None;
-        match self.read(line, sent, &mut said) {
-            Ok(()) => return Ok(said),
+        self.read_into(line, sent, &mut said)?;
+        Ok(said)
+    }
+
+    /// The same, and what the line says is put into its last place: a `Line` is large, and each answer copies it.
+    pub fn read_into(
+        &mut self,
+        line: &[u8],
+        sent: u64,
+        said: &mut Option<Line>,
+    ) -> Result<(), SchedRefusal>
+        requires { said.old ≡ None }
+        ensures read { OnOk result (reading_of self.old sent line.now ≡ answered said.new self.new) }
+        ensures refused { IfErr result (λ refusal.
+            (refusal ≡ SchedRefusal.OutOfMemory) ⊎ (reading_of self.old sent line.now ≡ refuses refusal)) }
+        ensures fit { OnOk result (IfSome said.new (IsFit self.old sent)) }
+        ensures kept { OnErr result (self.new ≡ self.old) }
+    {
+        let alloc = self.alloc;
+        match self.read(line, sent, said) {
+            Ok(()) => return Ok(()),
             Err(fault) => return Err(fault.refusal(alloc)),
         }
     }
 
-    /// What the line says is put into its last place at once: a `Line` is large, and each answer would copy it.
     fn read<'a>(
         &mut self,
         line: &'a [u8],
