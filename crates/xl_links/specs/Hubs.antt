@@ -1,5 +1,5 @@
--- The links that a hub in memory still has to give, and its script. Source: this project's own, for tests of what opens
--- links.
+-- The links and the door that a hub in memory still has to give, and its script. Source: this project's own, for tests
+-- of what opens these.
 use Rattle.std.specs.Prelude.{◌≡◌, ℕ, ◌<◌, ◌==◌, Bool, List, [], ◌∷◌, length, map, slice_get, Some, None, option_map, if◌then◌else◌}
 use Rattle.std.specs.List.{remove}
 use Rattle.std.specs.declared.option.Option.{Option}
@@ -7,6 +7,8 @@ use Rattle.xl_base.specs.Counts.{one_more}
 use Rattle.xl_links.specs.declared.hub.Spare.{Spare}
 use Rattle.xl_links.specs.declared.hub.scripted.MemHub.{MemHub}
 use Rattle.xl_links.specs.declared.hub.scripted.Asked.{Asked}
+use Rattle.xl_links.specs.declared.door.memory.MemDoor.{MemDoor}
+use Rattle.xl_links.specs.Doors.{Doorway}
 use Rattle.xl_links.specs.Links.{Wire}
 use Rattle.xl_links.specs.Scripts.{is_listed}
 use Rattle.xl_links.specs.Tellings.{Telling, telling_of}
@@ -15,6 +17,10 @@ use Rattle.xl_links.specs.Ways.{Target, target}
 -- a link to a member that says nothing
 abbrev pub silent_wire : Wire
 silent_wire = record { left = Some []; took = None; openings = None; readings = None; permissions = None; faults = 0 }
+
+-- a door to which nobody comes
+abbrev pub silent_doorway : Doorway
+silent_doorway = record { left = Some []; took = Some []; faults = 0 }
 
 abbrev pub target_of : Asked → Target
 target_of asked = target asked.member asked.way
@@ -49,6 +55,21 @@ module _ {L : Type 0} where
 
   abbrev pub targets_of : MemHub L → Option (List Target)
   targets_of hub = option_map (map target_of) (list_of_asked hub).told
+
+  -- the door that it still has to give
+  abbrev pub door_of : MemHub L → Option MemDoor
+  door_of hub = hub.door
+
+  -- with another one
+  abbrev pub with_door : MemHub L → MemDoor → MemHub L
+  with_door hub door = record hub { door = Some door }
+
+  -- the addresses at which it was asked for a door, in such room
+  abbrev pub list_of_doors : MemHub L → Telling (List ℕ)
+  list_of_doors hub = telling_of hub.doors
+
+  abbrev pub doors_of : MemHub L → Option (List (List ℕ))
+  doors_of hub = (list_of_doors hub).told
 
   abbrev pub hub_faults : MemHub L → ℕ
   hub_faults hub = hub.faults
