@@ -1,0 +1,4 @@
+pub mod Replies
+pub mod Rounds
+pub mod Attending
+pub mod Hearing
