@@ -320,7 +320,7 @@ fn read_at_hand<S: Read + OpenStream>(stream: &mut S, room: &mut [u8]) -> io::Re
 }
 
 /// Reads again after each read that was interrupted.
-fn read_uninterrupted<S: Read>(stream: &mut S, room: &mut [u8]) -> io::Result<usize>
+pub(crate) fn read_uninterrupted<S: Read>(stream: &mut S, room: &mut [u8]) -> io::Result<usize>
     ensures same { length room.new ≡ length room.old }
     ensures fits { IfOk result (λ count. count ≤ length room.new) }
 {
@@ -334,7 +334,7 @@ fn read_uninterrupted<S: Read>(stream: &mut S, room: &mut [u8]) -> io::Result<us
 }
 
 /// Writes again after each write that was interrupted.
-fn write_uninterrupted<S: Write>(stream: &mut S, piece: &[u8]) -> io::Result<usize>
+pub(crate) fn write_uninterrupted<S: Write>(stream: &mut S, piece: &[u8]) -> io::Result<usize>
     ensures { IfOk result (λ count. count ≤ length piece.now) }
 {
     for _ in 0..u64::MAX {

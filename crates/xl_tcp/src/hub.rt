@@ -1,16 +1,18 @@
 ghost use Rattle.std.specs.Prelude.{◌≡◌, None};
+ghost use Rattle.xl_links.specs.Requests.{offers, requests};
 
-use crate::address::address_of;
+use crate::address::{address_of, listener_at};
+use crate::door::TcpDoor;
 use crate::link::TcpLink;
 use std::alloc::Global;
 use std::io;
 use std::net::Net;
 use std::time::Clock;
-use xl_base::NodeNo;
+use xl_base::{Bytes, NodeNo};
 use xl_io::Failed;
 use xl_links::{Hub, Way};
 
-/// A hub over the network. What its links will give isn't told, nor which it was asked for.
+/// A hub over the network. What its links and its door will give isn't told, nor which it was asked for.
 #[derive(Drop)]
 pub struct TcpHub<R> {
     alloc: Global,
@@ -33,6 +35,12 @@ impl<R: Net + Clone + Drop> TcpHub<R> {
         let address = address_of(&net, way)?;
         Ok(TcpLink::new(self.alloc, net, address))
     }
+
+    fn door(&self, address: &Bytes) -> io::Result<TcpDoor<R>> {
+        let net = self.net.clone()?;
+        let listener = listener_at(&net, address)?;
+        Ok(TcpDoor::new(self.alloc, net, listener))
+    }
 }
 
 impl<R: Net + Clock + Clone + Drop + Send> Hub for TcpHub<R>
@@ -42,9 +50,11 @@ where
 {
     type L = TcpLink<R>;
 
-    ghost gives = { λ _ _. None };
+    type D = TcpDoor<R>;
 
-    ghost asked = { λ _. None };
+    ghost gives = { λ _. offers (λ _. None) None };
+
+    ghost asked = { λ _. requests None None };
 
     ghost faults = { λ hub. hub.faults };
 
@@ -53,6 +63,18 @@ where
     fn open_link(&mut self, _member: NodeNo, way: Way) -> Result<TcpLink<R>, Failed> {
         match self.link(&way) {
             Ok(link) => Ok(link),
+            Err(_) => {
+                self.faults = self.faults.saturating_add(1);
+                Err(Failed)
+            }
+        }
+    }
+
+    /// It fails if the address isn't one of the loopback and a port, if it can't be bound, or if its listener can't be set
+    /// not to wait. It also fails if memory runs out for one more handle of the network.
+    fn open_door(&mut self, address: Bytes) -> Result<TcpDoor<R>, Failed> {
+        match self.door(&address) {
+            Ok(door) => Ok(door),
             Err(_) => {
                 self.faults = self.faults.saturating_add(1);
                 Err(Failed)
