@@ -20,6 +20,7 @@ use Rattle.xl_settings.specs.declared.trust.Trust.{Trust}
 use Rattle.xl_settings.specs.Answers.{GivenMemory}
 use Rattle.xl_settings.specs.Keys.{least_unknown}
 use Rattle.xl_settings.specs.Lists.{members_at, met_by, published, stated_at, trust_of}
+use Rattle.xl_settings.specs.Doors.{submit_at}
 use Rattle.xl_settings.specs.Paths.{rolls_path_at, status_at}
 use Rattle.xl_settings.specs.Peers.{PeerSetting, are_peers, fitting, found_peers, peers_in}
 use Rattle.xl_settings.specs.Publishers.{named_by, publishers_at, rolls_at, taken_in, threshold_at}
@@ -119,11 +120,12 @@ table_runs table now s e =
     got key.Journal (journal_at table) _ s (AreRunnable s) (λ journal journal_is e16.
     got key.Status (status_at table) _ s (AreRunnable s) (λ status status_is e17.
     got key.Rolls (rolls_path_at table) _ s (AreRunnable s) (λ looked_at looked_at_is e18.
+    got key.SubmitAt (submit_at table) _ s (AreRunnable s) (λ address address_is e19.
     let met = is_met me peers stated (taken_in table) threshold now trust
     (threshold_bounded (length publishers) threshold (at key.Threshold table)
     (few_publishers table publishers publishers_is) threshold_is)
     (fits me (met_by stated (taken_in table)) (found_peers (at key.Peer table)) peers peers_is) trust_is in
-    subst AreRunnable (same_Ok _ _ s refl e18) (record {
+    subst AreRunnable (same_Ok _ _ s refl e19) (record {
       limit = usual_bounded usual_limit least_limit greatest_limit limit (at key.Limit table) (omega arith)
           (omega arith) limit_is;
       turns = usual_bounded usual_turns 1 greatest_turns turns (at key.Turns table) (omega arith)
@@ -138,7 +140,7 @@ table_runs table now s e =
           (omega arith) speak_is;
       threshold = met.threshold;
     }))
-    e17) e16) e15) e14) e13) e12) e11) e10) e9) e8) e7) e6) e5) e4) e3) e2) e1) e
+    e18) e17) e16) e15) e14) e13) e12) e11) e10) e9) e8) e7) e6) e5) e4) e3) e2) e1) e
 
 -- settings that bytes hold can be run
 pub can_run : (bytes : List ℕ) (now : ℕ) (s : Settings) → settings_of bytes now ≡ Ok s → AreRunnable s

@@ -29,13 +29,14 @@ text_of key.Roll = codes "roll"
 text_of key.Journal = codes "journal"
 text_of key.Status = codes "status"
 text_of key.Rolls = codes "rolls"
+text_of key.SubmitAt = codes "submit_at"
 
 -- all keys, in the order in which they are judged
 abbrev pub all_keys : List KeyName
 all_keys =
     key.Me ∷ key.List ∷ key.Quorum ∷ key.Validating ∷ key.Limit ∷ key.Turns ∷ key.HeartbeatMs ∷ key.RunMs
     ∷ key.Submit ∷ key.Peer ∷ key.Speak ∷ key.Publisher ∷ key.Threshold ∷ key.Roll ∷ key.Journal
-    ∷ key.Status ∷ key.Rolls ∷ []
+    ∷ key.Status ∷ key.Rolls ∷ key.SubmitAt ∷ []
 
 abbrev pub is_known : List ℕ → Bool
 is_known text = list_any (λ name. bytes_eq text (text_of name)) all_keys

@@ -5,6 +5,7 @@ pub mod Values
 pub mod Different
 pub mod Submits
 pub mod Paths
+pub mod Doors
 pub mod Peers
 pub mod Publishers
 pub mod Lists

@@ -13,6 +13,7 @@ use Rattle.xl_settings.specs.Limits.{most_bytes, usual_limit, usual_turns, great
 use Rattle.xl_settings.specs.declared.refusal.SettingsRefusal.{SettingsRefusal}
 use Rattle.xl_settings.specs.declared.refusal.SettingsRefusal.TheVariants.{Length, Text, Unknown, Known}
 use Rattle.xl_settings.specs.declared.settings.Settings.{Settings}
+use Rattle.xl_settings.specs.Doors.{submit_at}
 use Rattle.xl_settings.specs.Keys.{least_unknown}
 use Rattle.xl_settings.specs.Lists.{members_at, stated_at, met_by, trust_of}
 use Rattle.xl_settings.specs.Paths.{rolls_path_at, status_at}
@@ -75,6 +76,7 @@ in_table table now =
     needs key.Journal (journal_at table) (λ journal.
     needs key.Status (status_at table) (λ status.
     needs key.Rolls (rolls_path_at table) (λ looked_at.
+    needs key.SubmitAt (submit_at table) (λ address.
     Ok (record {
       me = me;
       list = trust.list;
@@ -90,7 +92,8 @@ in_table table now =
       journal = journal;
       status = status;
       rolls = looked_at;
-    })))))))))))))))))))
+      submit_at = address;
+    }))))))))))))))))))))
 
 abbrev pub unless_unknown : Members → ℕ → Option (List ℕ) → Result Settings SettingsRefusal
 unless_unknown table now (Some text) = Err (Unknown text)

@@ -21,6 +21,7 @@ pub enum KeyName {
     Journal,
     Status,
     Rolls,
+    SubmitAt,
 }
 
 impl KeyName {
@@ -46,6 +47,7 @@ impl KeyName {
             KeyName::Journal => "journal",
             KeyName::Status => "status",
             KeyName::Rolls => "rolls",
+            KeyName::SubmitAt => "submit_at",
         }
     }
 }
@@ -72,6 +74,7 @@ pub(crate) fn is_known(text: &str) -> bool
         KeyName::Journal,
         KeyName::Status,
         KeyName::Rolls,
+        KeyName::SubmitAt,
     ];
     all.iter().any(|name| text == name.text())
 }

@@ -1,5 +1,5 @@
 //! The settings of a node, read from a TOML document: who it is, whom it trusts, its limits, what it submits, its peers,
-//! the publishers that may make its list, and where it tells how it is.
+//! the publishers that may make its list, where it tells how it is, and where clients hand transactions in.
 //!
 //! It stands on xl_base, xl_io, xl_board, xl_ledger, xl_lists, xl_links, xl_publish, and the kit's `toml` and `hex`. Its
 //! one contract: `read_settings` and `settings_from` answer the settings that the bytes hold at the moment of the opening,
@@ -8,6 +8,7 @@
 #![tactic(auto)]
 
 mod document;
+mod door;
 mod entry;
 mod fault;
 mod key_name;

@@ -1,5 +1,5 @@
 use crate::Peers;
-use xl_base::{Millis, NodeNo, TxIds};
+use xl_base::{Bytes, Millis, NodeNo, TxIds};
 use xl_board::FilePath;
 use xl_lists::List;
 use xl_publish::Publishing;
@@ -35,4 +35,6 @@ pub struct Settings {
     pub status: Option<FilePath>,
     /// The text of rolls that is looked at while it runs, if one is. There are publishers then.
     pub rolls: Option<FilePath>,
+    /// The address of the loopback at which clients hand transactions in while it runs, if they may.
+    pub submit_at: Option<Bytes>,
 }

@@ -7,6 +7,7 @@ ghost use Rattle.xl_settings.specs.Publishers.{threshold_at};
 ghost use Rattle.xl_settings.specs.Settings.{in_table, me_at, validating_at, limit_at, turns_at, heartbeat_at, run_at, speak_at, journal_at};
 ghost use Rattle.xl_settings.specs.Values.{at, whole, or_default};
 
+use crate::door::submit_at;
 use crate::members::{members_at, stated_at};
 use crate::path::{rolls_path_at, status_at};
 use crate::peering::peers_at;
@@ -49,6 +50,7 @@ pub fn settings_in(alloc: Global, table: &Table, now: Millis) -> Result<Settings
     let journal = journal_at(table).ok_or(KeyName::Journal)?;
     let status = status_at(alloc, table)?.ok_or(KeyName::Status)?;
     let rolls = rolls_path_at(alloc, table)?.ok_or(KeyName::Rolls)?;
+    let submit_at = submit_at(alloc, table)?.ok_or(KeyName::SubmitAt)?;
     Ok(Settings {
         me,
         list: trust.list,
@@ -64,6 +66,7 @@ pub fn settings_in(alloc: Global, table: &Table, now: Millis) -> Result<Settings
         journal,
         status,
         rolls,
+        submit_at,
     })
 }
 
