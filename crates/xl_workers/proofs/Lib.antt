@@ -4,6 +4,7 @@ pub mod Links
 pub mod Hires
 pub mod Joins
 pub mod Starts
+pub mod Porters
 pub mod Shared
 pub mod Outcomes
 pub mod Lives

@@ -1,15 +1,16 @@
 -- One link more is opened.
-use Rattle.std.proofs.Common.{◌≡◌, ◌≢◌, ◌+◌, ℕ, false, Option, List, [], ◌∷◌, ◌++◌, length, map, refl, sym, ap, ◌∙◌, arith, append_assoc, append-nil, length-append, subst}
+use Rattle.std.proofs.Common.{◌≡◌, ◌≢◌, ◌+◌, ℕ, false, Option, List, [], ◌∷◌, ◌++◌, length, map, refl, sym, ap, ◌∙◌, arith, append_assoc, append-nil, length-append, subst, inl, inr}
 use Rattle.std.specs.Prelude.{nat_eq, IfSome}
 use Rattle.std.proofs.lemmas.List.{map-append}
 use Rattle.std.specs.List.{AllByRecursion, IsDistinct}
 use Rattle.xl_links.specs.Links.{Wire}
+use Rattle.xl_links.specs.Requests.{Requests}
 use Rattle.xl_links.specs.Tellings.{AddsTold}
 use Rattle.xl_links.specs.Ways.{Target}
 use Rattle.xl_peers.proofs.Growing.{tells_nothing, tells_both}
 use Rattle.xl_workers.specs.declared.plan.Contact.{Contact}
 use Rattle.xl_workers.specs.declared.linking.Peer.{Peer}
-use Rattle.xl_workers.specs.Linking.{contact_of, member_of, member_in, target_of, HubSeen, hub_seen, AsksFront, IsAsTold, AreLinked}
+use Rattle.xl_workers.specs.Linking.{contact_of, member_of, member_in, target_of, HubSeen, hub_seen, AsksLinks, AsksFront, IsDoorAsked, IsAsTold, AreLinked}
 use Rattle.xl_workers.proofs.Pairs.{all_more}
 
 -- the targets of contacts have their members
@@ -39,24 +40,36 @@ pub asks_all : (old now : Option (List Target)) (all : List Contact) → AsksSom
 asks_all old now all s =
     subst (λ (l : List Target). AddsTold old now l) (sym (append-nil s.done) ∙ s.parts) s.asked
 
-pub asks_front : (old_faults now_faults : ℕ) (old now : Option (List Target)) (all rest : List Contact)
-    → AsksSome old now all rest
-    → AsksFront (hub_seen old_faults old) (map target_of all) (hub_seen now_faults now)
+pub asks_front : (old_faults now_faults : ℕ) (old now : Requests) (all rest : List Contact)
+    → AsksSome old.links now.links all rest
+    → AsksLinks (hub_seen old_faults old) (map target_of all) (hub_seen now_faults now)
 asks_front old_faults now_faults old now all rest s =
     record { front = s.done; first = (map target_of rest, s.parts); asked = s.asked }
 
 -- all links of a plan begin with all of them
-pub all_front : (old new : HubSeen) (targets : List Target) → AddsTold old.asked new.asked targets
-    → AsksFront old targets new
+pub all_front : (old new : HubSeen) (targets : List Target) → AddsTold old.asked.links new.asked.links targets
+    → AsksLinks old targets new
 all_front old new targets a = record { front = targets; first = ([], append-nil targets); asked = a }
 
 -- and with none
-pub none_front : (old new : HubSeen) (targets : List Target) → new.asked ≡ old.asked → AsksFront old targets new
+pub none_front : (old new : HubSeen) (targets : List Target) → new.asked.links ≡ old.asked.links
+    → AsksLinks old targets new
 none_front old new targets same = record {
   front = [];
   first = (targets, refl);
-  asked = subst (λ (told : Option (List Target)). AddsTold old.asked told []) (sym same) (tells_nothing old.asked);
+  asked = subst (λ (told : Option (List Target)). AddsTold old.asked.links told []) (sym same)
+      (tells_nothing old.asked.links);
 }
+
+-- no door was asked for
+pub undoored : (old new : HubSeen) (targets : List Target) (door : Option (List ℕ)) → AsksLinks old targets new
+    → new.asked.doors ≡ old.asked.doors → AsksFront old targets door new
+undoored old new targets door links same = record { links = links; door = inl same }
+
+-- a door was asked for, or none is to be
+pub doored : (old new : HubSeen) (targets : List Target) (door : Option (List ℕ)) → AsksLinks old targets new
+    → IsDoorAsked door old.asked.doors new.asked.doors → AsksFront old targets door new
+doored old new targets door links asked = record { links = links; door = inr asked }
 
 -- the hub tells of this contact's link what it told at first
 abbrev pub IsStill : (ℕ → Option Wire) → (ℕ → Option Wire) → Contact → Type 0

@@ -1,5 +1,5 @@
 -- A run, as its parts say it.
-use Rattle.std.proofs.Common.{◌≡◌, ◌≤◌, ℕ, List, [], ◌∷◌, ◌++◌, length, length-append, map, refl, sym, ap, ◌∙◌, arith}
+use Rattle.std.proofs.Common.{◌≡◌, ◌≤◌, ℕ, Option, List, [], ◌∷◌, ◌++◌, length, length-append, map, refl, sym, ap, ◌∙◌, arith}
 use mathlib.Core.List.{IsPrefix}
 use Rattle.xl_base.specs.Faults.{Rose}
 use Rattle.xl_base.specs.declared.ids.TxId.{TxId}
@@ -8,6 +8,7 @@ use Rattle.xl_turns.specs.Knowing.{newcomer, all_shares}
 use Rattle.xl_turns.specs.Places.{all_below}
 use Rattle.xl_turns.proofs.Prefixes.{prefix_all, prefix_trans}
 use Rattle.xl_links.specs.Tellings.{AddsTold}
+use Rattle.xl_links.specs.Requests.{Requests}
 use Rattle.xl_links.specs.Ways.{Target}
 use Rattle.xl_core.specs.Core.{Core}
 use Rattle.xl_store.specs.declared.entry.Entry.{Entry}
@@ -23,12 +24,12 @@ use Rattle.xl_heartbeat.specs.Outputs.{Output}
 use Rattle.xl_heartbeat.specs.Beats.{taking_calls, TakesReports}
 use Rattle.xl_workers.specs.declared.ends.RunEnd.{RunEnd}
 use Rattle.xl_workers.specs.declared.ends.RunEnd.TheVariants as end
-use Rattle.xl_workers.specs.Linking.{HubSeen, AsksFront, member_in}
+use Rattle.xl_workers.specs.Linking.{HubSeen, AsksFront, IsDoorAsked, member_in}
 use Rattle.xl_workers.specs.Submits.{Submitted, SubmittedFront}
 use Rattle.xl_workers.specs.Sharing.{Setting, SharedOut, SubmitPart}
 use Rattle.xl_workers.specs.Runs.{Doing, doing_of}
 use Rattle.xl_workers.specs.Working.{Closes, Worked, TookLast, Lives, Lived, end_of}
-use Rattle.xl_workers.proofs.Links.{none_front}
+use Rattle.xl_workers.proofs.Links.{none_front, undoored}
 use Rattle.xl_workers.proofs.Shared.{stands, full_longer}
 use Rattle.xl_workers.proofs.Outcomes.{outputs}
 
@@ -68,21 +69,23 @@ module _ (start : Core) (turns : ℕ) (old new : Knowledge Entry) (o1 o2 : Outpu
       record { handed = t.handed; made = t.made; drawn = t.drawn; full = t.full; written = same }
 
 module _ (s : Setting) where
-  shared_out : (pulse : Pulse) (members : List ℕ) (old mid new : Knowledge Entry) (o1 o2 o3 : Output)
-      (beats : BeatEnd) (last : Ending) (w : Worked s pulse members old o1 beats mid o2)
+  shared_out : (pulse : Pulse) (door : Option (List ℕ)) (members : List ℕ) (old mid new : Knowledge Entry) (o1 o2 o3 : Output)
+      (beats : BeatEnd) (last : Ending) (w : Worked s pulse door members old o1 beats mid o2)
       (t : TookLast s.start s.turns beats.run mid o2 last new o3)
       (history : List Entry) → Closes s.turns new history → new.mine ≡ all_below (length history)
-      → SharedOut s pulse members history old.mine beats last o1 o3
-  shared_out pulse members old mid new o1 o2 o3 beats last w t history close all =
+      → SharedOut s pulse door members history old.mine beats last o1 o3
+  shared_out pulse door members old mid new o1 o2 o3 beats last w t history close all =
       let before = closes_earlier s.turns mid new history t.made.begins t.drawn close in
       record {
         beat = w.beat;
+        gate = w.gate;
         parts = w.parts;
         end = t.made.places;
         calls = w.calls;
         handed = t.handed;
         all = ap (λ (l : List ℕ). l ++ t.made.places) (sym w.mine) ∙ sym t.made.mine ∙ all;
         beating = w.beating history before;
+        attending = w.attending history before;
         serving = w.serving history before;
         ending = record {
           stand = record {
@@ -96,22 +99,23 @@ module _ (s : Setting) where
         written = outputs w.calls (taking_calls last t.handed) o1 o2 o3 beats last w.written t.written;
       }
 
-  pub lives_ran : (pulse : Pulse) (targets : List Target) (ids : List TxId) (old_hub new_hub : HubSeen)
+  pub lives_ran : (pulse : Pulse) (targets : List Target) (door : Option (List ℕ)) (ids : List TxId) (old_hub new_hub : HubSeen)
       (old mid new : Knowledge Entry) (o1 o2 o3 : Output) (beats : BeatEnd) (last : Ending)
-      → AddsTold old_hub.asked new_hub.asked targets
-      → Worked s pulse (map member_in targets) old o1 beats mid o2
+      → AddsTold old_hub.asked.links new_hub.asked.links targets
+      → IsDoorAsked door old_hub.asked.doors new_hub.asked.doors
+      → Worked s pulse door (map member_in targets) old o1 beats mid o2
       → TookLast s.start s.turns beats.run mid o2 last new o3
-      → Lives s (doing_of ids targets pulse old_hub new_hub o1 o3) ids (end.Ran beats last) old new
-  lives_ran pulse targets ids old_hub new_hub old mid new o1 o2 o3 beats last asked w t = record {
-    asked = asked;
+      → Lives s (doing_of ids targets door pulse old_hub new_hub o1 o3) ids (end.Ran beats last) old new
+  lives_ran pulse targets door ids old_hub new_hub old mid new o1 o2 o3 beats last asked doored w t = record {
+    asked = (asked, doored);
     share = t.made.share ∙ w.share;
     begins = prefix_trans old.seen mid.seen new.seen w.begins t.made.begins;
-    by = λ history close all. (refl, shared_out pulse (map member_in targets) old mid new o1 o2 o3 beats last w t history close all);
+    by = λ history close all. (refl, shared_out pulse door (map member_in targets) old mid new o1 o2 o3 beats last w t history close all);
   }
 
   -- nothing ran, if memory runs out
   pub lives_none : (d : Doing) (k : Knowledge Entry) → k.share ≡ all_shares → d.new_output ≡ d.old_output
-      → AsksFront d.old_hub d.targets d.new_hub → Lives s d d.ids end.OutOfMemory k k
+      → AsksFront d.old_hub d.targets d.door d.new_hub → Lives s d d.ids end.OutOfMemory k k
   lives_none d k share silent asked = record {
     asked = asked;
     share = share;
@@ -121,7 +125,7 @@ module _ (s : Setting) where
 
   -- nothing ran, since the hub failed
   pub lives_unlinked : (d : Doing) (k : Knowledge Entry) → k.share ≡ all_shares → d.new_output ≡ d.old_output
-      → AsksFront d.old_hub d.targets d.new_hub → Rose d.old_hub.faults d.new_hub.faults
+      → AsksFront d.old_hub d.targets d.door d.new_hub → Rose d.old_hub.faults d.new_hub.faults
       → Lives s d d.ids end.NetFault k k
   lives_unlinked d k share silent asked rose = record {
     asked = asked;
@@ -196,7 +200,9 @@ module _ (s : Setting) where
       submits = new.mine;
       submitting = front_part old new d.ids refused.OutOfMemory history first f close.begins;
       by = ((f.next ∷ f.rest, sym f.front), record { all = all; silent = silent });
-      asked = none_front d.old_hub d.new_hub d.targets unasked;
+      asked = undoored d.old_hub d.new_hub d.targets d.door
+          (none_front d.old_hub d.new_hub d.targets (ap (λ (r : Requests). r.links) unasked))
+          (ap (λ (r : Requests). r.doors) unasked);
     };
   }
   lived_front d old new (refused.StoreFull n) first silent unasked f = record {

@@ -1,5 +1,5 @@
 -- The places of a closed history are those of its parts.
-use Rattle.std.proofs.Common.{◌≡◌, ◌≤◌, ◌+◌, ◌++◌, Bool, ℕ, Option, List, [], ◌∷◌, length, map, refl, sym, ap, ◌∙◌, subst, arith}
+use Rattle.std.proofs.Common.{◌≡◌, ◌≤◌, ◌+◌, ◌++◌, Bool, ℕ, Option, Some, None, List, [], ◌∷◌, length, map, refl, sym, ap, ◌∙◌, subst, arith}
 use Rattle.std.proofs.Math.Nat.{le-max_left, le-max_right}
 use Rattle.std.specs.List.{AllByRecursion, flat_map}
 use mathlib.Core.List.{IsPrefix}
@@ -9,7 +9,9 @@ use Rattle.xl_turns.specs.Knowing.{all_shares, joined}
 use Rattle.xl_turns.specs.Places.{merge}
 use Rattle.xl_turns.specs.Passes.{known}
 use Rattle.xl_turns.proofs.Prefixes.{prefix_trans}
+use Rattle.xl_links.specs.Doors.{Doorway}
 use Rattle.xl_links.specs.Links.{Wire}
+use Rattle.xl_links.specs.Requests.{Offers}
 use Rattle.xl_core.specs.Core.{Core}
 use Rattle.xl_store.specs.declared.entry.Entry.{Entry}
 use Rattle.xl_store.specs.declared.store.Store.{Store}
@@ -20,6 +22,10 @@ use Rattle.xl_store.proofs.Journals.{stand_in_longer}
 use Rattle.xl_peers.specs.declared.ends.Served.{Served}
 use Rattle.xl_peers.specs.declared.ends.Served.TheVariants as served
 use Rattle.xl_peers.specs.Serving.{Deed, IsReason, calls_in}
+use Rattle.xl_door.specs.declared.ends.Attended.{Attended}
+use Rattle.xl_door.specs.declared.ends.Attended.TheVariants as attended
+use Rattle.xl_door.specs.Attending as attending
+use Rattle.xl_door.specs.Rounds as rounds
 use Rattle.xl_heartbeat.specs.declared.pulse.Pulse.{Pulse}
 use Rattle.xl_heartbeat.specs.declared.ends.BeatEnd.{BeatEnd}
 use Rattle.xl_heartbeat.specs.declared.ends.Ending.{Ending}
@@ -31,10 +37,12 @@ use Rattle.xl_heartbeat.specs.Beats.{Phase, Heartbeat, IsStop, IsFull, stop_call
 use Rattle.xl_heartbeat.specs.Beats as beats
 use Rattle.xl_workers.specs.declared.worker.Worker.{Worker}
 use Rattle.xl_workers.specs.Pairing.{Paired, total}
-use Rattle.xl_workers.specs.Linking.{member_of, IsAsTold}
+use Rattle.xl_workers.specs.declared.porter.Porter.{Porter}
+use Rattle.xl_workers.specs.Linking.{member_of, IsAsTold, IsDoor}
+use Rattle.xl_workers.specs.Doors.{AttendsIf, HasKept}
 use Rattle.xl_workers.specs.Serving.{HasServed, HaveServed, peer_of, share_of, IsFresh}
 use Rattle.xl_workers.specs.Joining.{joined_all, knows, IsHis, HasSeen}
-use Rattle.xl_workers.specs.Sharing.{Setting, setting, Stands, BeatPart, ServePart, IsFilled, merge_all}
+use Rattle.xl_workers.specs.Sharing.{Setting, setting, Stands, BeatPart, DoorIf, DoorPart, ServePart, IsFilled, IsFilledBehind, merge_all}
 use Rattle.xl_workers.specs.Working.{AreAll, Closes, Worked}
 use Rattle.xl_workers.proofs.Pairs.{paired_at, paired_map, paired_sum, paired_all, paired_with, both_all, all_of_map, map_twice, sum_map}
 
@@ -76,6 +84,11 @@ filled : (turns : ℕ) (deeds : List Deed) (k : Knowledge Entry) (why : Served) 
 filled turns deeds k served.Stopped history le most r = tt
 filled turns deeds k (served.StoreFull n) history le most r = let e = r.1 in (r.0, omega (arith, le, most, e))
 
+filled_behind : (turns : ℕ) (k : Knowledge Entry) (why : Attended) (history : List Entry) → k.drawn ≤ length history
+    → length history ≤ turns → attending.IsReason turns k why → IsFilledBehind turns history why
+filled_behind turns k attended.Stopped history le most r = tt
+filled_behind turns k (attended.StoreFull n) history le most r = let e = r.1 in (r.0, omega (arith, le, most, e))
+
 joined_mine : (k : Knowledge Entry) (ks : List (Knowledge Entry))
     → (joined_all k ks).mine ≡ merge_all k.mine (map (λ (x : Knowledge Entry). x.mine) ks)
 joined_mine k [] = refl
@@ -110,7 +123,37 @@ module _ {L : Type 0} where
   seen_more seen history (w ∷ ws) p h =
       (prefix_trans (known w.pass).seen seen history h.0 p, seen_more seen history ws p h.1)
 
-module _ {B K L : Type 0} (store : Store B K) (may : ℕ → Bool) (shows : L → Wire) where
+-- what a porter did stands in each history that begins with what its pass has seen
+module _ {D : Type 0} (start : Core) (turns : ℕ) (may : ℕ → Bool) (gives : Offers) (doors : D → Doorway)
+    (old new : Knowledge Entry) (history : List Entry) (idle : old.mine ≡ []) (seen : IsPrefix new.seen history)
+    (drawn : new.drawn ≤ length history) (most : length history ≤ turns) where
+  pub door_part : (address : Option (List ℕ)) (door after : Option D) → IsDoor gives.door doors address door
+      → AttendsIf start turns may doors door after old new → DoorIf (setting start turns may gives) address history new.mine
+  door_part None None after is did = ap (λ (k : Knowledge Entry). k.mine) did ∙ idle
+  door_part None (Some door) after is did = absurd is
+  door_part (Some address) None after is did = absurd is
+  door_part (Some address) (Some door) None is did = absurd did
+  door_part (Some address) (Some door) (Some after) is did = record {
+    old = old;
+    new = new;
+    old_door = doors door;
+    new_door = doors after;
+    why = did.0;
+    told = is;
+    attends = did.1;
+    stand = stands start old new (flat_map rounds.calls_in did.1.attending.rounds ++ attending.last_calls did.0) history
+        did.1.attending.made idle seen;
+    filled = filled_behind turns new did.0 history drawn most did.1.reason;
+  }
+
+-- without a door a porter's pass has the share that it had, and with one too
+pub same_part : {D : Type 0} (start : Core) (turns : ℕ) (may : ℕ → Bool) (doors : D → Doorway) (door after : Option D)
+    (old new : Knowledge Entry) → AttendsIf start turns may doors door after old new → new.share ≡ old.share
+same_part start turns may doors None after old new did = ap (λ (k : Knowledge Entry). k.share) did
+same_part start turns may doors (Some door) None old new did = absurd did
+same_part start turns may doors (Some door) (Some after) old new did = did.1.attending.made.share
+
+module _ {B K L D : Type 0} (store : Store B K) (may : ℕ → Bool) (shows : L → Wire) (doors : D → Doorway) where
   pairs_served : (old new : List (Worker L)) → HaveServed store may shows old new → length new ≡ length old
       → Paired (HasServed store may shows) old new
   pairs_served old new h long = paired_at (HasServed store may shows) old new long h
@@ -125,7 +168,7 @@ module _ {B K L : Type 0} (store : Store B K) (may : ℕ → Bool) (shows : L �
 
   -- what the run, and then the joins, left of the passes
   pub record Joined (pulse : Pulse) (first heart beaten one pass : Pass Entry) (old_output new_output : Output)
-      (end : BeatEnd) (old new : List (Worker L)) : Type 0 where
+      (end : BeatEnd) (porter kept : Porter D) (old new : List (Worker L)) : Type 0 where
     pub beating : Heartbeat (start_of store) (turns_of store) may pulse (known heart) old_output end
         (known beaten) new_output
     pub served : HaveServed store may shows old new
@@ -133,48 +176,66 @@ module _ {B K L : Type 0} (store : Store B K) (may : ℕ → Bool) (shows : L �
     pub join : known one ≡ joined (known first) (known beaten)
     pub first_seen : IsPrefix (known first).seen (known one).seen
     pub beat_seen : IsPrefix (known beaten).seen (known one).seen
-    pub joins : known pass ≡ joined_all (known one) (map knows new)
+    pub keeping : HasKept store may doors porter kept
+    pub joins : known pass ≡ joined_all (joined (known one) (known kept.pass)) (map knows new)
+    pub kept_seen : IsPrefix (known kept.pass).seen (known pass).seen
     pub one_seen : IsPrefix (known one).seen (known pass).seen
     pub each : AllByRecursion (HasSeen (known pass).seen) new
-    pub all : AreAll first heart old
+    pub all : AreAll first heart porter.pass old
 
   module _ (pulse : Pulse) (first heart beaten one pass : Pass Entry) (old_output new_output : Output)
-      (end : BeatEnd) (old new : List (Worker L))
-      (j : Joined pulse first heart beaten one pass old_output new_output end old new) where
+      (end : BeatEnd) (porter kept : Porter D) (old new : List (Worker L))
+      (j : Joined pulse first heart beaten one pass old_output new_output end porter kept old new) where
+    -- what the heartbeat and the porter left
+    abbrev two : Knowledge Entry
+    two = joined (known one) (known kept.pass)
+
     -- all shares came together
     whole_share : (known pass).share ≡ all_shares
     whole_share =
         let pairs = pairs_served old new j.served j.long in
         let sums = paired_sum (HasServed store may shows) share_of same_share old new pairs in
         let a = ap (λ (k : Knowledge Entry). k.share) j.joins in
-        let b = joined_share (known one) (map knows new) in
+        let b = joined_share two (map knows new) in
+        let g = same_part (start_of store) (turns_of store) may doors porter.door kept.door (known porter.pass)
+        (known kept.pass) j.keeping.attends in
         let c = sum_map knows (λ (k : Knowledge Entry). k.share) new in
         let d = ap (λ (k : Knowledge Entry). k.share) j.join in
         let e = j.beating.made.share in
         let f = j.all.shares in
-        omega (arith, sums, a, b, c, d, e, f)
+        omega (arith, sums, a, b, c, d, e, f, g)
 
     pass_mine : (known pass).mine
-        ≡ merge_all (merge (known first).mine (known beaten).mine) (map (λ (w : Worker L). (known w.pass).mine) new)
+        ≡ merge_all (merge (merge (known first).mine (known beaten).mine) (known kept.pass).mine)
+        (map (λ (w : Worker L). (known w.pass).mine) new)
     pass_mine =
         ap (λ (k : Knowledge Entry). k.mine) j.joins
-        ∙ joined_mine (known one) (map knows new)
-        ∙ ap (λ (k : Knowledge Entry). merge_all k.mine (map (λ (x : Knowledge Entry). x.mine) (map knows new))) j.join
-        ∙ ap (merge_all (merge (known first).mine (known beaten).mine))
+        ∙ joined_mine two (map knows new)
+        ∙ ap (λ (k : Knowledge Entry).
+        merge_all (merge k.mine (known kept.pass).mine) (map (λ (x : Knowledge Entry). x.mine) (map knows new))) j.join
+        ∙ ap (merge_all (merge (merge (known first).mine (known beaten).mine) (known kept.pass).mine))
         (map_twice knows (λ (k : Knowledge Entry). k.mine) new)
 
     beat_drawn : (known beaten).drawn ≤ (known pass).drawn
     beat_drawn =
         let a = ap (λ (k : Knowledge Entry). k.drawn) j.joins in
-        let b = joined_drawn (known one) (map knows new) in
+        let b = joined_drawn two (map knows new) in
+        let e = le-max_left (known one).drawn (known kept.pass).drawn in
         let d = ap (λ (k : Knowledge Entry). k.drawn) j.join in
         let m = le-max_right (known first).drawn (known beaten).drawn in
-        omega (arith, a, b, d, m)
+        omega (arith, a, b, d, e, m)
+
+    kept_drawn : (known kept.pass).drawn ≤ (known pass).drawn
+    kept_drawn =
+        let a = ap (λ (k : Knowledge Entry). k.drawn) j.joins in
+        let b = joined_drawn two (map knows new) in
+        let m = le-max_right (known one).drawn (known kept.pass).drawn in
+        omega (arith, a, b, m)
 
     beat_in_pass : IsPrefix (known beaten).seen (known pass).seen
     beat_in_pass = prefix_trans (known beaten).seen (known one).seen (known pass).seen j.beat_seen j.one_seen
 
-    module _ (gives : ℕ → Option Wire) where
+    module _ (gives : Offers) where
       -- what the workers stand on
       abbrev at_store : Setting
       at_store = setting (start_of store) (turns_of store) may gives
@@ -199,7 +260,7 @@ module _ {B K L : Type 0} (store : Store B K) (may : ℕ → Bool) (shows : L �
 
       -- what a worker did stands in each history that begins with what its pass has seen
       serve_part : (history : List Entry) → length history ≤ turns_of store → (x y : Worker L)
-          → IsFresh x × IsAsTold gives shows x.peer
+          → IsFresh x × IsAsTold gives.links shows x.peer
           → HasServed store may shows x y × (HasSeen history y × KnowsUpTo (length history) y)
           → ServePart at_store history (member_of (peer_of x)) (known y.pass).mine
       serve_part history most x y fresh h =
@@ -218,7 +279,7 @@ module _ {B K L : Type 0} (store : Store B K) (may : ℕ → Bool) (shows : L �
           }
 
       serve_parts : (history : List Entry) → Closes (turns_of store) (known pass) history
-          → AllByRecursion (IsAsTold gives shows) (map peer_of old)
+          → AllByRecursion (IsAsTold gives.links shows) (map peer_of old)
           → Paired (ServePart at_store history) (map member_of (map peer_of old))
           (map (λ (w : Worker L). (known w.pass).mine) new)
       serve_parts history close told =
@@ -229,29 +290,42 @@ module _ {B K L : Type 0} (store : Store B K) (may : ℕ → Bool) (shows : L �
           (pairs_served old new j.served j.long)
           (both_all (HasSeen history) (KnowsUpTo (length history)) new
           (seen_more (known pass).seen history new close.begins j.each)
-          (joined_each (known one) new (length history)
+          (joined_each two new (length history)
           (subst (λ (k : Knowledge Entry). k.drawn ≤ length history) j.joins close.drawn))) in
           subst
           (λ (ms : List ℕ).
           Paired (ServePart at_store history) ms (map (λ (w : Worker L). (known w.pass).mine) new))
           (sym (map_twice peer_of member_of old))
-          (paired_map P (ServePart at_store history) (λ x. IsFresh x × IsAsTold gives shows x.peer)
+          (paired_map P (ServePart at_store history) (λ x. IsFresh x × IsAsTold gives.links shows x.peer)
           (λ x. member_of (peer_of x)) (λ w. (known w.pass).mine) (serve_part history close.limit) old new
-          (both_all IsFresh (λ x. IsAsTold gives shows x.peer) old j.all.fresh
-          (all_of_map (IsAsTold gives shows) peer_of old told))
+          (both_all IsFresh (λ x. IsAsTold gives.links shows x.peer) old j.all.fresh
+          (all_of_map (IsAsTold gives.links shows) peer_of old told))
           pairs)
 
-      pub worked : AllByRecursion (IsAsTold gives shows) (map peer_of old)
-          → Worked at_store pulse (map member_of (map peer_of old)) (known first) old_output end
+      gate_part : (address : Option (List ℕ)) → IsDoor gives.door doors address porter.door
+          → (history : List Entry) → Closes (turns_of store) (known pass) history
+          → DoorIf at_store address history (known kept.pass).mine
+      gate_part address is history close =
+          let le = close.drawn in
+          let le' = kept_drawn in
+          door_part (start_of store) (turns_of store) may gives doors (known porter.pass) (known kept.pass) history
+          j.all.quiet (prefix_trans (known kept.pass).seen (known pass).seen history j.kept_seen close.begins)
+          (omega (arith, le, le')) close.limit address porter.door kept.door is j.keeping.attends
+
+      pub worked : (address : Option (List ℕ)) → IsDoor gives.door doors address porter.door
+          → AllByRecursion (IsAsTold gives.links shows) (map peer_of old)
+          → Worked at_store pulse address (map member_of (map peer_of old)) (known first) old_output end
           (known pass) new_output
-      worked told = record {
+      worked address is told = record {
         calls = j.beating.calls;
         beat = (known beaten).mine;
+        gate = (known kept.pass).mine;
         parts = map (λ (w : Worker L). (known w.pass).mine) new;
         share = whole_share;
         begins = prefix_trans (known first).seen (known one).seen (known pass).seen j.first_seen j.one_seen;
         mine = pass_mine;
         written = j.beating.written;
         beating = beat_part;
+        attending = gate_part address is;
         serving = λ history close. serve_parts history close told;
       }

@@ -2,6 +2,7 @@ pub mod Pairing
 pub mod Submits
 pub mod Linking
 pub mod Serving
+pub mod Doors
 pub mod Hiring
 pub mod Joining
 pub mod Sharing

@@ -1,9 +1,11 @@
--- The links that a hub opens, one to each member. Source: this project's own.
-use Rattle.std.specs.Prelude.{◌≡◌, ℕ, List, map, IfSome}
+-- The links that a hub opens, one to each member, and its door. Source: this project's own.
+use Rattle.std.specs.Prelude.{◌≡◌, ◌⊎◌, ℕ, List, [], ◌∷◌, map, IfSome, Some, None}
 use mathlib.Core.List.{IsPrefix}
 use Rattle.std.specs.declared.option.Option.{Option}
 use Rattle.std.specs.List.{AllByRecursion}
+use Rattle.xl_links.specs.Doors.{Doorway}
 use Rattle.xl_links.specs.Links.{Wire}
+use Rattle.xl_links.specs.Requests.{Requests}
 use Rattle.xl_links.specs.Tellings.{AddsTold}
 use Rattle.xl_links.specs.Ways.{Target, target}
 use Rattle.xl_workers.specs.declared.plan.Contact.{Contact}
@@ -19,19 +21,29 @@ target_of contact = target contact.member contact.way
 abbrev pub member_in : Target → ℕ
 member_in t = t.member
 
--- what a hub shows: how often a call has failed, and which links it was asked for, if it tells that
+-- what a hub shows: how often a call has failed, and what it was asked for, if it tells that
 pub record HubSeen : Type 0 where
   pub faults : ℕ
-  pub asked : Option (List Target)
+  pub asked : Requests
 
-abbrev pub hub_seen : ℕ → Option (List Target) → HubSeen
+abbrev pub hub_seen : ℕ → Requests → HubSeen
 hub_seen faults asked = record { faults = faults; asked = asked }
 
 -- the hub was asked for the first of these links, in order, and for no others
-pub record AsksFront (old : HubSeen) (all : List Target) (new : HubSeen) : Type 0 where
+pub record AsksLinks (old : HubSeen) (all : List Target) (new : HubSeen) : Type 0 where
   pub front : List Target
   pub first : IsPrefix front all
-  pub asked : AddsTold old.asked new.asked front
+  pub asked : AddsTold old.asked.links new.asked.links front
+
+-- it was asked for a door at this address, or for none
+abbrev pub IsDoorAsked : Option (List ℕ) → Option (List (List ℕ)) → Option (List (List ℕ)) → Type 0
+IsDoorAsked None old new = new ≡ old
+IsDoorAsked (Some address) old new = AddsTold old new (address ∷ [])
+
+-- and perhaps for the door
+pub record AsksFront (old : HubSeen) (all : List Target) (door : Option (List ℕ)) (new : HubSeen) : Type 0 where
+  pub links : AsksLinks old all new
+  pub door : (new.asked.doors ≡ old.asked.doors) ⊎ IsDoorAsked door old.asked.doors new.asked.doors
 
 module _ {L : Type 0} where
   abbrev pub member_of : Peer L → ℕ
@@ -46,3 +58,11 @@ module _ {L : Type 0} where
       (contacts : List Contact) (peers : List (Peer L)) : Type 0 where
     pub members : map member_of peers ≡ map contact_of contacts
     pub told : AllByRecursion (IsAsTold gives shows) peers
+
+module _ {D : Type 0} where
+  -- there is a door if there is an address, and it shows what the hub told of the next one, if it told it
+  abbrev pub IsDoor : Option Doorway → (D → Doorway) → Option (List ℕ) → Option D → Type 0
+  IsDoor told shows None None = Unit {0}
+  IsDoor told shows (Some address) (Some door) = IfSome told (λ doorway. shows door ≡ doorway)
+  IsDoor told shows None (Some door) = ⊥
+  IsDoor told shows (Some address) None = ⊥

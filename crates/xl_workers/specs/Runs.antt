@@ -1,5 +1,5 @@
 -- A whole run of a node. Source: this project's own.
-use Rattle.std.specs.Prelude.{◌≡◌, ℕ, List, [], ◌∷◌, ◌++◌, length, map}
+use Rattle.std.specs.Prelude.{◌≡◌, ℕ, Option, List, [], ◌∷◌, ◌++◌, length, map}
 use mathlib.Core.List.{IsPrefix}
 use Rattle.xl_base.specs.Faults.{Rose}
 use Rattle.xl_base.specs.declared.ids.TxId.{TxId}
@@ -14,7 +14,7 @@ use Rattle.xl_heartbeat.specs.Outputs.{Output}
 use Rattle.xl_heartbeat.specs.Statuses.{status_of_run}
 use Rattle.xl_workers.specs.declared.ends.RunEnd.{RunEnd}
 use Rattle.xl_workers.specs.declared.ends.RunEnd.TheVariants as end
-use Rattle.xl_workers.specs.Linking.{HubSeen, AsksFront, member_in}
+use Rattle.xl_workers.specs.Linking.{HubSeen, AsksFront, IsDoorAsked, member_in}
 use Rattle.xl_workers.specs.Sharing.{Setting, SubmitPart, SharedOut}
 
 -- the status that a run ends with
@@ -29,16 +29,18 @@ status_of_end (end.StoreFull n) = status.StoreFull
 pub record Doing : Type 0 where
   pub ids : List TxId
   pub targets : List Target
+  pub door : Option (List ℕ)
   pub pulse : Pulse
   pub old_hub : HubSeen
   pub new_hub : HubSeen
   pub old_output : Output
   pub new_output : Output
 
-abbrev pub doing_of : List TxId → List Target → Pulse → HubSeen → HubSeen → Output → Output → Doing
-doing_of ids targets pulse old_hub new_hub old_output new_output = record {
+abbrev pub doing_of : List TxId → List Target → Option (List ℕ) → Pulse → HubSeen → HubSeen → Output → Output → Doing
+doing_of ids targets door pulse old_hub new_hub old_output new_output = record {
   ids = ids;
   targets = targets;
+  door = door;
   pulse = pulse;
   old_hub = old_hub;
   new_hub = new_hub;
@@ -55,12 +57,14 @@ pub record NoMore (d : Doing) (history : List Entry) (submits : List ℕ) : Type
 abbrev pub IsLess : List TxId → List TxId → Type 0
 IsLess done ids = (next : TxId) × (rest : List TxId) × (ids ≡ done ++ next ∷ rest)
 
--- The links that the hub was asked for: all if the workers ran, none if there were too few threads or a submit had no
--- turn, and else the first of them
+-- What the hub was asked for: all links and the door if the workers ran, none if there were too few threads or a submit
+-- had no turn, and else the first of the links, and perhaps the door
 abbrev pub IsAsked : Doing → RunEnd → Type 0
-IsAsked d (end.Ran beats last) = AddsTold d.old_hub.asked d.new_hub.asked d.targets
-IsAsked d end.NetFault = AsksFront d.old_hub d.targets d.new_hub
-IsAsked d end.OutOfMemory = AsksFront d.old_hub d.targets d.new_hub
+IsAsked d (end.Ran beats last) =
+    AddsTold d.old_hub.asked.links d.new_hub.asked.links d.targets
+    × IsDoorAsked d.door d.old_hub.asked.doors d.new_hub.asked.doors
+IsAsked d end.NetFault = AsksFront d.old_hub d.targets d.door d.new_hub
+IsAsked d end.OutOfMemory = AsksFront d.old_hub d.targets d.door d.new_hub
 IsAsked d end.TooFewThreads = d.new_hub.asked ≡ d.old_hub.asked
 IsAsked d (end.StoreFull n) = d.new_hub.asked ≡ d.old_hub.asked
 
@@ -70,7 +74,7 @@ IsAsked d (end.StoreFull n) = d.new_hub.asked ≡ d.old_hub.asked
 abbrev pub EndsBy : Setting → Doing → List Entry → List TxId → List ℕ → RunEnd → Type 0
 EndsBy s d history done submits (end.Ran beats last) =
     (done ≡ d.ids)
-    × SharedOut s d.pulse (map member_in d.targets) history submits beats last d.old_output d.new_output
+    × SharedOut s d.pulse d.door (map member_in d.targets) history submits beats last d.old_output d.new_output
 EndsBy s d history done submits end.NetFault =
     (done ≡ d.ids)
     × NoMore d history submits
@@ -83,7 +87,7 @@ EndsBy s d history done submits (end.StoreFull n) =
     × (n ≡ s.turns)
     × (length history ≡ s.turns)
 
--- The submits are of the first ids, in order and each once, the hub was asked for links as the plan names them, and the
+-- The submits are of the first ids, in order and each once, the hub was asked for links and a door as the plan names them, and the
 -- end says how many of both there are and what else there is
 pub record NodeRun (s : Setting) (d : Doing) (end : RunEnd) (history : List Entry) : Type 0 where
   pub done : List TxId

@@ -1,6 +1,6 @@
 -- What the heartbeat and the workers leave, as the one pass tells it into which theirs were joined.
 -- Source: what the code of this crate relies on. No public clause cites this file.
-use Rattle.std.specs.Prelude.{◌≡◌, ℕ, ◌+◌, ◌≤◌, List, [], ◌∷◌, length}
+use Rattle.std.specs.Prelude.{◌≡◌, ℕ, Option, ◌+◌, ◌≤◌, List, [], ◌∷◌, length}
 use Rattle.std.specs.List.{AllByRecursion}
 use mathlib.Core.List.{IsPrefix}
 use Rattle.xl_base.specs.declared.ids.TxId.{TxId}
@@ -26,14 +26,15 @@ use Rattle.xl_workers.specs.declared.ends.RunEnd.TheVariants as end
 use Rattle.xl_workers.specs.declared.worker.Worker.{Worker}
 use Rattle.xl_workers.specs.Pairing.{Paired, total}
 use Rattle.xl_workers.specs.Serving.{share_of, IsFresh}
-use Rattle.xl_workers.specs.Sharing.{Setting, BeatPart, ServePart, merge_all}
+use Rattle.xl_workers.specs.Sharing.{Setting, BeatPart, DoorIf, ServePart, merge_all}
 use Rattle.xl_workers.specs.Runs.{Doing, EndsBy, IsAsked, NodeRun}
 
 module _ {L : Type 0} where
   -- all shares are there, and only the first pass may have places
-  pub record AreAll (one heart : Pass Entry) (workers : List (Worker L)) : Type 0 where
-    pub shares : (known one).share + (known heart).share + total share_of workers ≡ all_shares
+  pub record AreAll (one heart gate : Pass Entry) (workers : List (Worker L)) : Type 0 where
+    pub shares : (known one).share + (known heart).share + (known gate).share + total share_of workers ≡ all_shares
     pub idle : (known heart).mine ≡ []
+    pub quiet : (known gate).mine ≡ []
     pub fresh : AllByRecursion IsFresh workers
 
 -- the store is closed with this history by who has this pass
@@ -42,18 +43,20 @@ pub record Closes (turns : ℕ) (k : Knowledge Entry) (history : List Entry) : T
   pub drawn : k.drawn ≤ length history
   pub limit : length history ≤ turns
 
--- A whole pass came back, with the places of the heartbeat and of the workers beside the old ones
-pub record Worked (s : Setting) (pulse : Pulse) (members : List ℕ)
+-- A whole pass came back, with the places of the heartbeat, of the porter and of the workers beside the old ones
+pub record Worked (s : Setting) (pulse : Pulse) (door : Option (List ℕ)) (members : List ℕ)
     (old : Knowledge Entry) (old_output : Output) (end : BeatEnd) (new : Knowledge Entry) (new_output : Output)
     : Type 0 where
   pub calls : List Call
   pub beat : List ℕ
+  pub gate : List ℕ
   pub parts : List (List ℕ)
   pub share : new.share ≡ all_shares
   pub begins : IsPrefix old.seen new.seen
-  pub mine : new.mine ≡ merge_all old.mine (beat ∷ parts)
+  pub mine : new.mine ≡ merge_all old.mine (beat ∷ gate ∷ parts)
   pub written : IsWritten end.run (lines_of calls) old_output new_output
   pub beating : (history : List Entry) → Closes s.turns new history → BeatPart s pulse history end calls beat
+  pub attending : (history : List Entry) → Closes s.turns new history → DoorIf s door history gate
   pub serving : (history : List Entry) → Closes s.turns new history → Paired (ServePart s history) members parts
 
 -- if a write's fault had ended the heartbeat nothing more was written

@@ -9,11 +9,11 @@ use xl_heartbeat::{BeatEnd, Ending, status_of_run};
 pub enum RunEnd {
     /// The heartbeat and the workers ran. The heartbeat ended so, and then the last reports did.
     Ran { beats: BeatEnd, last: Ending },
-    /// The hub could not make a link: its count of faults rose. Nothing but the submits happened at the core.
+    /// The hub could not make a link or the door: its count of faults rose. Nothing but the submits happened at the core.
     NetFault,
-    /// Memory ran out before the heartbeat and the workers ran.
+    /// Memory ran out before the heartbeat and the workers ran. No door was opened.
     OutOfMemory,
-    /// A thread for each member and one more couldn't be started. Nothing happened at the core, and no link was opened.
+    /// A thread for each member, one for the door if there is one, and one more couldn't be started. Nothing happened at the core, and no link was opened.
     TooFewThreads,
     /// A submit found all turns of the store drawn: it has this many. No link was opened.
     StoreFull(u64),

@@ -1,12 +1,14 @@
 //! A running validator: a worker for each peer and a heartbeat, side by side over one store.
 //!
 //! A run submits the ids of its plan, opens a link to each member, and serves each in a worker of its own beside the
-//! heartbeat. Each of them has a part of the store's first pass. When the heartbeat has ended the run and all workers
-//! have seen it, their passes are joined, the last reports are taken, and the store is closed.
+//! heartbeat. A porter attends the door, if the plan has one. Each of them has a part of the store's first pass. When the
+//! heartbeat has ended the run and all others have seen it, their passes are joined, the last reports are taken, and the
+//! store is closed.
 //!
-//! It stands on the store of xl_store, the sessions of xl_peers, the heartbeat of xl_heartbeat and the hub of xl_links.
+//! It stands on the store of xl_store, the sessions of xl_peers, the door of xl_door, the heartbeat of xl_heartbeat and
+//! the hub of xl_links.
 //! Its one contract: the journal of the closed store is a legal history of the core that was handed in. Each place of
-//! it is one of the submits, of the heartbeat, of the one worker of a member, or of the last reports. The output is
+//! it is one of the submits, of the heartbeat, of the porter, of the one worker of a member, or of the last reports. The output is
 //! the lines of what the reports handed out, and each end has its cause.
 #![tactic(auto)]
 
@@ -16,6 +18,7 @@ mod joining;
 mod linking;
 mod living;
 mod plan;
+mod porter;
 mod running;
 mod starting;
 mod submitting;

@@ -2,11 +2,12 @@ ghost use Rattle.std.specs.Prelude.{◌≡◌, ◌≤◌, nat_eq, map, IfOk, IfE
 ghost use Rattle.std.specs.List.{IsDistinct};
 ghost use Rattle.xl_base.specs.Faults.{Rose};
 ghost use Rattle.xl_links.specs.Tellings.{AddsTold};
-ghost use Rattle.xl_workers.specs.Linking.{contact_of, hub_seen, target_of, AreLinked, AsksFront};
+ghost use Rattle.xl_workers.specs.Linking.{contact_of, hub_seen, target_of, AreLinked, AsksLinks, IsDoor, IsDoorAsked};
 
 use crate::plan::Contact;
 use std::alloc::Global;
-use xl_base::NodeNo;
+use xl_base::{Bytes, NodeNo};
+use xl_io::Failed;
 use xl_links::Hub;
 
 /// A member, and the link to it.
@@ -32,9 +33,11 @@ pub(crate) fn open_links<H: Hub>(
 ) -> Result<Vec<Peer<H::L>>, NoLinks>
     requires once { IsDistinct nat_eq (map contact_of contacts.items) }
     ensures linked { IfOk result (λ peers.
-        AreLinked (H.gives hub.old) H.L.Link.shows contacts.items peers.items) }
-    ensures asked { OnOk result (AddsTold (H.asked hub.old) (H.asked hub.new) (map target_of contacts.items)) }
-    ensures front { OnErr result (AsksFront (hub_seen (H.faults hub.old) (H.asked hub.old)) (map target_of contacts.items)
+        AreLinked (H.gives hub.old).links H.L.Link.shows contacts.items peers.items) }
+    ensures asked { OnOk result (AddsTold (H.asked hub.old).links (H.asked hub.new).links (map target_of contacts.items)) }
+    ensures door { (H.gives hub.new).door ≡ (H.gives hub.old).door }
+    ensures doors { (H.asked hub.new).doors ≡ (H.asked hub.old).doors }
+    ensures front { OnErr result (AsksLinks (hub_seen (H.faults hub.old) (H.asked hub.old)) (map target_of contacts.items)
         (hub_seen (H.faults hub.new) (H.asked hub.new))) }
     ensures later { H.faults hub.old ≤ H.faults hub.new }
     ensures failed { IfErr result (λ why. why ≡ NoLinks.NetFault → Rose (H.faults hub.old) (H.faults hub.new)) }
@@ -51,4 +54,21 @@ pub(crate) fn open_links<H: Hub>(
         }
     }
     Ok(peers)
+}
+
+/// Opens the door, if there is one.
+pub(crate) fn open_door<H: Hub>(hub: &mut H, address: Option<Bytes>) -> Result<Option<H::D>, Failed>
+    ensures opened { IfOk result (λ door. IsDoor (H.gives hub.old).door H.D.Door.shows address door) }
+    ensures asked { IsDoorAsked address (H.asked hub.old).doors (H.asked hub.new).doors }
+    ensures links { (H.asked hub.new).links ≡ (H.asked hub.old).links }
+    ensures later { H.faults hub.old ≤ H.faults hub.new }
+    ensures failed { OnErr result (Rose (H.faults hub.old) (H.faults hub.new)) }
+{
+    match address {
+        Some(address) => match hub.open_door(address) {
+            Ok(door) => Ok(Some(door)),
+            Err(failed) => Err(failed),
+        },
+        None => Ok(None),
+    }
 }

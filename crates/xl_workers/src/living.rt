@@ -12,9 +12,9 @@ ghost use Rattle.xl_workers.specs.Runs.{doing_of};
 ghost use Rattle.xl_workers.specs.Working.{TookLast, Lived, end_of};
 
 use crate::ends::RunEnd;
-use crate::hiring::hire;
-use crate::joining::join_all;
-use crate::linking::{NoLinks, open_links};
+use crate::hiring::hire_all;
+use crate::joining::join_crew;
+use crate::linking::{NoLinks, open_door, open_links};
 use crate::plan::Plan;
 use crate::starting::can_run;
 use crate::submitting::submit_all;
@@ -22,6 +22,7 @@ use crate::worker::run;
 use std::fs::Files;
 use std::sync::Wait;
 use std::thread::Threads;
+use xl_base::Bytes;
 use xl_board::Board;
 use xl_heartbeat::{Bulletin, Ending, take_reports};
 use xl_io::{Discard, Keeper, Sink};
@@ -63,7 +64,14 @@ fn end_of(end: StoreEnd) -> RunEnd
     }
 }
 
-/// Submits the ids, opens the links, and has a worker for each peer beside the heartbeat. When all have ended, their
+/// How many threads a run needs beside those of its members.
+fn threads_beside(door: &Option<Bytes>) -> usize
+    ensures { result ≤ 2 }
+{
+    if door.is_some() { 2 } else { 1 }
+}
+
+/// Submits the ids, opens the links and the door, and has a porter and a worker for each peer beside the heartbeat. When all have ended, their
 /// passes are joined and the last reports are taken. If there aren't threads for all of them, nothing is done.
 pub(crate) fn live<
     W: Threads + Wait + Files + Sync,
@@ -94,7 +102,7 @@ pub(crate) fn live<
     ensures unopened { (n : ℕ) → result.0 ≡ RunEnd.StoreFull n → hub.new ≡ hub.old }
     ensures unstarted { result.0 ≡ RunEnd.TooFewThreads → hub.new ≡ hub.old }
     ensures lived { Lived (setting (start_of store.now) (turns_of store.now) (C.may_give host.now.clock.now) (H.gives hub.old))
-        (doing_of plan.submits.items (map target_of plan.contacts.items) plan.pulse
+        (doing_of plan.submits.items (map target_of plan.contacts.items) plan.door plan.pulse
         (hub_seen (H.faults hub.old) (H.asked hub.old)) (hub_seen (H.faults hub.new) (H.asked hub.new))
         (output (O.held sink.old) (O.faults sink.old)) (output (O.held sink.new) (O.faults sink.new)))
         result.0 (known result.1) }
@@ -105,9 +113,10 @@ pub(crate) fn live<
         keeps: _,
         submits,
         contacts,
+        door,
         pulse,
     } = plan;
-    if !can_run(host.rt, contacts.len() + 1) {
+    if !can_run(host.rt, contacts.len() + threads_beside(&door)) {
         return (RunEnd::TooFewThreads, pass);
     }
     match submit_all(host.rt, store, &mut pass, &submits, host.clock) {
@@ -122,19 +131,15 @@ pub(crate) fn live<
     let Ok(room) = Vec::with_capacity(host.alloc, peers.len()) else {
         return (RunEnd::OutOfMemory, pass);
     };
+    let door = match open_door(hub, door) {
+        Ok(door) => door,
+        Err(_) => return (RunEnd::NetFault, pass),
+    };
     let (first, mut heart) = store.split(pass);
-    let (first, mut workers) = hire(store, first, peers, room);
-    let beats = run(
-        host,
-        store,
-        &mut heart,
-        workers.as_mut_slice(),
-        &pulse,
-        sink,
-        bulletin,
-    );
+    let (first, mut crew) = hire_all(store, first, peers, door, room);
+    let beats = run(host, store, &mut heart, &mut crew, &pulse, sink, bulletin);
     let one = store.join(first, heart);
-    let mut pass = join_all(store, one, workers);
+    let mut pass = join_crew(store, one, crew);
     let last = take_last(host.rt, store, sink, &mut pass, beats.run);
     (RunEnd::Ran { beats, last }, pass)
 }

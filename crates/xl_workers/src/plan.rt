@@ -1,4 +1,4 @@
-use xl_base::{NodeNo, TxId};
+use xl_base::{Bytes, NodeNo, TxId};
 use xl_heartbeat::Pulse;
 use xl_links::Way;
 
@@ -13,6 +13,8 @@ pub struct Plan {
     pub submits: Vec<TxId>,
     /// The members that are served, each once. They are peers of the core.
     pub contacts: Vec<Contact>,
+    /// The address at which clients hand transactions in, if they may.
+    pub door: Option<Bytes>,
     /// When the heartbeat beats, until when, and which list it sets at each beat.
     pub pulse: Pulse,
 }

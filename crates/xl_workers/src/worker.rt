@@ -4,9 +4,12 @@ ghost use Rattle.xl_store.specs.Stores.{start_of, turns_of, IsOf};
 ghost use Rattle.xl_heartbeat.specs.Outputs.{output};
 ghost use Rattle.xl_heartbeat.specs.Beats.{Heartbeat};
 ghost use Rattle.xl_heartbeat.specs.Bulletins.{ToldIf};
+ghost use Rattle.xl_workers.specs.Doors.{HasKept};
 ghost use Rattle.xl_workers.specs.Serving.{IsReady, HasServed, AreReady, HaveServed};
 
+use crate::hiring::Crew;
 use crate::linking::Peer;
+use crate::porter::{Porter, keep};
 use std::fs::Files;
 use std::sync::Wait;
 use std::thread;
@@ -15,7 +18,7 @@ use xl_board::Board;
 use xl_heartbeat::{BeatEnd, Bulletin, Pulse, beat};
 use xl_io::{Keeper, Sink};
 use xl_ledger::Branch;
-use xl_links::{Clock, Gate, Link};
+use xl_links::{Clock, Door, Gate, Link};
 use xl_peers::{Host, attend};
 use xl_store::{Pass, Store};
 
@@ -85,12 +88,67 @@ fn beat_on<W: Wait + Files, B: Branch + Drop, K: Keeper + Drop, O: Sink, C: Cloc
     left.end
 }
 
-/// All workers beside the heartbeat, until all have ended.
+/// The porter beside all workers.
+fn serve<
+    W: Threads + Wait + Sync,
+    B: Branch + Drop + Send,
+    K: Keeper + Drop + Send,
+    L: Link + Send,
+    D: Door + Send,
+    G: Gate + Sync,
+    C: Clock + Sync,
+>(host: &Host<'_, W, G, C>, store: &Store<B, K>, porter: &mut Porter<D>, workers: &mut [Worker<L>])
+    requires porter { IsOf store.now porter.old.pass }
+    requires ready { AreReady store.now workers.old }
+    ensures kept { HasKept store.now (C.may_give host.now.clock.now) D.shows porter.old porter.new }
+    ensures served { HaveServed store.now (C.may_give host.now.clock.now) L.shows workers.old workers.new }
+    ensures long { length workers.new ≡ length workers.old }
+{
+    // If no thread can be started they run one after the other, and each until the node is to stop.
+    thread::join_mut(
+        host.rt,
+        &mut ||
+            requires { IsOf store.now porter.now.pass }
+            ensures { HasKept store.entry.now (C.may_give host.entry.now.clock.now) D.shows porter.entry.now porter.exit.now }
+        { keep(host, store, porter) },
+        &mut ||
+            requires { AreReady store.now workers.now }
+            ensures { HaveServed store.entry.now (C.may_give host.entry.now.clock.now) L.shows workers.entry.now workers.exit.now
+                × (length workers.exit.now ≡ length workers.entry.now) }
+        { work_all(host, store, workers) },
+    );
+}
+
+/// The whole crew: the porter too, if there is a door.
+fn serve_all<
+    W: Threads + Wait + Sync,
+    B: Branch + Drop + Send,
+    K: Keeper + Drop + Send,
+    L: Link + Send,
+    D: Door + Send,
+    G: Gate + Sync,
+    C: Clock + Sync,
+>(host: &Host<'_, W, G, C>, store: &Store<B, K>, crew: &mut Crew<L, D>)
+    requires porter { IsOf store.now crew.old.porter.pass }
+    requires ready { AreReady store.now crew.old.workers.items }
+    ensures kept { HasKept store.now (C.may_give host.now.clock.now) D.shows crew.old.porter crew.new.porter }
+    ensures served { HaveServed store.now (C.may_give host.now.clock.now) L.shows crew.old.workers.items crew.new.workers.items }
+    ensures long { length crew.new.workers.items ≡ length crew.old.workers.items }
+{
+    if crew.porter.door.is_some() {
+        serve(host, store, &mut crew.porter, crew.workers.as_mut_slice());
+    } else {
+        work_all(host, store, crew.workers.as_mut_slice());
+    }
+}
+
+/// The whole crew beside the heartbeat, until all have ended.
 pub(crate) fn run<
     W: Threads + Wait + Files + Sync,
     B: Branch + Drop + Send,
     K: Keeper + Drop + Send,
     L: Link + Send,
+    P: Door + Send,
     G: Gate + Sync,
     C: Clock + Sync,
     O: Sink + Send,
@@ -99,29 +157,32 @@ pub(crate) fn run<
     host: &Host<'_, W, G, C>,
     store: &Store<B, K>,
     pass: &mut Pass,
-    workers: &mut [Worker<L>],
+    crew: &mut Crew<L, P>,
     pulse: &Pulse,
     sink: &mut O,
     bulletin: &mut Option<Bulletin<D>>,
 ) -> BeatEnd
     requires pass { IsOf store.now pass.old }
-    requires ready { AreReady store.now workers.old }
+    requires porter { IsOf store.now crew.old.porter.pass }
+    requires ready { AreReady store.now crew.old.workers.items }
     ensures pass { IsOf store.now pass.new }
     ensures heartbeat { Heartbeat (start_of store.now) (turns_of store.now) (C.may_give host.now.clock.now) pulse.now
         (known pass.old) (output (O.held sink.old) (O.faults sink.old)) result
         (known pass.new) (output (O.held sink.new) (O.faults sink.new)) }
     ensures told { ToldIf D.show_gives (start_of store.now) bulletin.old (known pass.new).seen bulletin.new }
-    ensures served { HaveServed store.now (C.may_give host.now.clock.now) L.shows workers.old workers.new }
-    ensures long { length workers.new ≡ length workers.old }
+    ensures kept { HasKept store.now (C.may_give host.now.clock.now) P.shows crew.old.porter crew.new.porter }
+    ensures served { HaveServed store.now (C.may_give host.now.clock.now) L.shows crew.old.workers.items crew.new.workers.items }
+    ensures long { length crew.new.workers.items ≡ length crew.old.workers.items }
 {
-    // If no thread can be started the second closure runs first, in this one: the workers then find the stop asked.
+    // If no thread can be started the second closure runs first, in this one: the crew then finds the stop asked.
     let ((), beats) = thread::join_mut(
         host.rt,
         &mut ||
-            requires { AreReady store.now workers.now }
-            ensures { HaveServed store.entry.now (C.may_give host.entry.now.clock.now) L.shows workers.entry.now workers.exit.now
-                × (length workers.exit.now ≡ length workers.entry.now) }
-        { work_all(host, store, workers) },
+            requires { IsOf store.now crew.now.porter.pass × AreReady store.now crew.now.workers.items }
+            ensures { HasKept store.entry.now (C.may_give host.entry.now.clock.now) P.shows crew.entry.now.porter crew.exit.now.porter
+                × HaveServed store.entry.now (C.may_give host.entry.now.clock.now) L.shows crew.entry.now.workers.items crew.exit.now.workers.items
+                × (length crew.exit.now.workers.items ≡ length crew.entry.now.workers.items) }
+        { serve_all(host, store, crew) },
         &mut || -> BeatEnd
             requires { IsOf store.now pass.now }
             ensures { IsOf store.entry.now pass.exit.now

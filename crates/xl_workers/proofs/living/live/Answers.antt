@@ -1,6 +1,6 @@
 -- the pass begins with nothing known, and if there are too few threads it ends so; all ids are submitted before the links,
 -- or one has no turn; and the joined pass has seen all that the heartbeat and each worker had
-use Rattle.std.proofs.Common.{◌≡◌, ◌≤◌, ◌^◌, ℕ, List, length, map, refl, sym, ap, ◌∙◌, subst, arith}
+use Rattle.std.proofs.Common.{◌≡◌, ◌≤◌, ◌^◌, ℕ, Option, List, length, map, refl, sym, ap, ◌∙◌, subst, arith}
 use Rattle.std.proofs.lemmas.List.{length-map}
 use Rattle.std.specs.Prelude.{IsSome}
 use Rattle.std.specs.List.{AllByRecursion}
@@ -13,16 +13,19 @@ use Rattle.xl_heartbeat.proofs.Telling.{untold, still_told}
 use Rattle.xl_workers.specs.declared.ends.RunEnd.{RunEnd}
 use Rattle.xl_workers.specs.declared.ends.RunEnd.TheVariants as end
 use Rattle.xl_workers.specs.declared.linking.Peer.{Peer}
+use Rattle.xl_workers.specs.declared.hiring.Crew.{Crew}
 use Rattle.xl_workers.specs.declared.worker.Worker.{Worker}
-use Rattle.xl_workers.specs.Linking.{member_of, contact_of, hub_seen, target_of, IsAsTold}
-use Rattle.xl_workers.specs.Serving.{IsReady, AreReady, HaveServed}
-use Rattle.xl_workers.specs.Joining.{joined_all, knows, IsHis, HasSeen}
+use Rattle.xl_links.specs.Doors.{Doorway}
+use Rattle.xl_links.specs.Tellings.{AddsTold}
+use Rattle.xl_links.specs.Ways.{Target}
+use Rattle.xl_workers.specs.Linking.{member_of, contact_of, hub_seen, target_of, IsAsTold, IsDoor, IsDoorAsked}
+use Rattle.xl_workers.specs.Serving.{IsReady}
 use Rattle.xl_workers.specs.Submits.{Submitted, SubmittedFront}
 use Rattle.xl_workers.specs.Sharing.{setting}
 use Rattle.xl_workers.specs.Runs.{doing_of}
 use Rattle.xl_workers.specs.Working.{Worked, Lived}
-use Rattle.xl_workers.proofs.Pairs.{all_of_map, index_all, put_back}
-use Rattle.xl_workers.proofs.Links.{same_members, all_front}
+use Rattle.xl_workers.proofs.Pairs.{all_of_map, index_all}
+use Rattle.xl_workers.proofs.Links.{same_members, all_front, doored, undoored}
 use Rattle.xl_workers.proofs.Starts.{enough_left, are_all, same_peers, same_mine, same_seen, worked_from}
 use Rattle.xl_workers.proofs.Shared.{Joined, all_his, worked}
 use Rattle.xl_workers.proofs.Lives.{lived, lived_unstarted, lived_front, lives_ran, lives_none, lives_unlinked, still_whole}
@@ -42,15 +45,15 @@ split-first-requires-clause-share g c =
     let share : mid.share ≡ 2 ^ 126 = still_whole s ids old mid c.requires.new sub in
     omega (arith, share)
 
-pub hire-first-requires-clause-peers : goal.hire-first-requires-clause-peers
-hire-first-requires-clause-peers g c =
+pub hire_all-first-requires-clause-peers : goal.hire_all-first-requires-clause-peers
+hire_all-first-requires-clause-peers g c =
     all_of_map (λ (m : ℕ). IsSome (key_of (start_of c.args.store.now).node.keys m)) member_of
     c.in-Ok-open_links.peers.items
     (subst (λ (ms : List ℕ). AllByRecursion (λ (m : ℕ). IsSome (key_of (start_of c.args.store.now).node.keys m)) ms)
     (sym c.in-Ok-open_links.ensures.linked.members) c.requires.peers)
 
-pub hire-first-requires-clause-share : goal.hire-first-requires-clause-share
-hire-first-requires-clause-share g c =
+pub hire_all-first-requires-clause-share : goal.hire_all-first-requires-clause-share
+hire_all-first-requires-clause-share g c =
     let start = start_of c.args.store.now in
     let turns = turns_of c.args.store.now in
     let may = g.C.Clock.may_give c.args.host.now.clock.now in
@@ -81,7 +84,7 @@ returns-then-not-can_run-clause-lived g c =
     let s = setting start turns may gives in
     let hub = hub_seen (g.H.Hub.faults c.args.hub.now) (g.H.Hub.asked c.args.hub.now) in
     let o = output (g.O.Sink.held c.args.sink.now) (g.O.Sink.faults c.args.sink.now) in
-    let d = doing_of c.args.plan.submits.items (map target_of c.args.plan.contacts.items) c.args.plan.pulse hub hub o o in
+    let d = doing_of c.args.plan.submits.items (map target_of c.args.plan.contacts.items) c.args.plan.door c.args.plan.pulse hub hub o o in
     lived_unstarted s d (known c.args.pass) c.requires.new refl refl
 
 pub returns-in-Err-clause-lived : goal.returns-in-Err-clause-lived
@@ -95,7 +98,7 @@ returns-in-Err-clause-lived g c =
     let targets = map target_of c.args.plan.contacts.items in
     let old_hub = hub_seen (g.H.Hub.faults c.args.hub.now) (g.H.Hub.asked c.args.hub.now) in
     let o = output (g.O.Sink.held c.args.sink.now) (g.O.Sink.faults c.args.sink.now) in
-    let d = doing_of ids targets c.args.plan.pulse old_hub old_hub o o in
+    let d = doing_of ids targets c.args.plan.door c.args.plan.pulse old_hub old_hub o o in
     let old = known c.args.pass in
     let mid = known c.submit_all.new.pass in
     let front = subst (λ (l : List TxId). SubmittedFront start turns may old l c.in-Err.end mid) c.deref.ensures.value
@@ -119,9 +122,10 @@ returns-in-Err-NetFault-clause-lived g c =
     let sub = subst (λ (l : List TxId). Submitted start may old l mid) c.deref.ensures.value c.in-Ok.ensures.all in
     let share = still_whole s ids old mid c.requires.new sub in
     let o = output (g.O.Sink.held c.args.sink.now) (g.O.Sink.faults c.args.sink.now) in
-    let d = doing_of ids targets c.args.plan.pulse old_hub new_hub o o in
+    let d = doing_of ids targets c.args.plan.door c.args.plan.pulse old_hub new_hub o o in
     lived s d old mid mid end.NetFault c.requires.new sub
-    (lives_unlinked s d mid share refl c.in-Err-NetFault.ensures.front
+    (lives_unlinked s d mid share refl
+    (undoored old_hub new_hub targets c.args.plan.door c.in-Err-NetFault.ensures.front c.in-Err-NetFault.ensures.doors)
     (c.in-Err-NetFault.ensures.failed c.in-Err-NetFault.field-0-is))
 
 pub returns-in-Err-OutOfMemory-clause-lived : goal.returns-in-Err-OutOfMemory-clause-lived
@@ -140,9 +144,10 @@ returns-in-Err-OutOfMemory-clause-lived g c =
     let sub = subst (λ (l : List TxId). Submitted start may old l mid) c.deref.ensures.value c.in-Ok.ensures.all in
     let share = still_whole s ids old mid c.requires.new sub in
     let o = output (g.O.Sink.held c.args.sink.now) (g.O.Sink.faults c.args.sink.now) in
-    let d = doing_of ids targets c.args.plan.pulse old_hub new_hub o o in
+    let d = doing_of ids targets c.args.plan.door c.args.plan.pulse old_hub new_hub o o in
     lived s d old mid mid end.OutOfMemory c.requires.new sub
-    (lives_none s d mid share refl c.in-Err-OutOfMemory.ensures.front)
+    (lives_none s d mid share refl
+    (undoored old_hub new_hub targets c.args.plan.door c.in-Err-OutOfMemory.ensures.front c.in-Err-OutOfMemory.ensures.doors))
 
 pub returns-in_default-clause-lived : goal.returns-in_default-clause-lived
 returns-in_default-clause-lived g c =
@@ -160,31 +165,49 @@ returns-in_default-clause-lived g c =
     let sub = subst (λ (l : List TxId). Submitted start may old l mid) c.deref.ensures.value c.in-Ok.ensures.all in
     let share = still_whole s ids old mid c.requires.new sub in
     let o = output (g.O.Sink.held c.args.sink.now) (g.O.Sink.faults c.args.sink.now) in
-    let d = doing_of ids targets c.args.plan.pulse old_hub new_hub o o in
+    let d = doing_of ids targets c.args.plan.door c.args.plan.pulse old_hub new_hub o o in
     lived s d old mid mid end.OutOfMemory c.requires.new sub
-    (lives_none s d mid share refl (all_front old_hub new_hub targets c.in-Ok-open_links.ensures.asked))
+    (lives_none s d mid share refl (undoored old_hub new_hub targets c.args.plan.door
+    (all_front old_hub new_hub targets c.in-Ok-open_links.ensures.asked) c.in-Ok-open_links.ensures.doors))
+
+pub returns-in-Err-open_door-clause-lived : goal.returns-in-Err-open_door-clause-lived
+returns-in-Err-open_door-clause-lived g c =
+    let start = start_of c.args.store.now in
+    let turns = turns_of c.args.store.now in
+    let may = g.C.Clock.may_give c.args.host.now.clock.now in
+    let gives = g.H.Hub.gives c.args.hub.now in
+    let s = setting start turns may gives in
+    let ids : List TxId = c.args.plan.submits.items in
+    let targets = map target_of c.args.plan.contacts.items in
+    let door = c.args.plan.door in
+    let old_hub = hub_seen (g.H.Hub.faults c.args.hub.now) (g.H.Hub.asked c.args.hub.now) in
+    let new_hub = hub_seen (g.H.Hub.faults c.open_door.new.hub) (g.H.Hub.asked c.open_door.new.hub) in
+    let old = known c.args.pass in
+    let mid = known c.submit_all.new.pass in
+    let sub = subst (λ (l : List TxId). Submitted start may old l mid) c.deref.ensures.value c.in-Ok.ensures.all in
+    let share = still_whole s ids old mid c.requires.new sub in
+    let o = output (g.O.Sink.held c.args.sink.now) (g.O.Sink.faults c.args.sink.now) in
+    let d = doing_of ids targets door c.args.plan.pulse old_hub new_hub o o in
+    let links = subst (λ (told : Option (List Target)). AddsTold (g.H.Hub.asked c.args.hub.now).links told targets)
+    (sym c.in-Err-open_door.ensures.links) c.in-Ok-open_links.ensures.asked in
+    let asked = subst
+    (λ (told : Option (List (List ℕ))). IsDoorAsked door told (g.H.Hub.asked c.open_door.new.hub).doors)
+    c.in-Ok-open_links.ensures.doors c.in-Err-open_door.ensures.asked in
+    let earlier = c.in-Ok-open_links.ensures.later in
+    let failed = c.in-Err-open_door.ensures.failed in
+    lived s d old mid mid end.NetFault c.requires.new sub
+    (lives_unlinked s d mid share refl (doored old_hub new_hub targets door (all_front old_hub new_hub targets links) asked)
+    (omega (arith, earlier, failed)))
 
 pub run-beats-requires-clause-ready : goal.run-beats-requires-clause-ready
-run-beats-requires-clause-ready g c κs within =
-    subst (λ (l : List (Worker g.row.H-L.Denot)). AreReady c.args.store.now l) (sym c.as_mut_slice.ensures.value)
-    (index_all (IsReady c.args.store.now) c.hire-first.result.1.items c.hire-first.ensures.ready)
+run-beats-requires-clause-ready g c =
+    index_all (IsReady c.args.store.now) c.hire_all-first.result.1.workers.items c.hire_all-first.ensures.hired.ready
 
-pub join_all-pass-requires-clause-workers : goal.join_all-pass-requires-clause-workers
-join_all-pass-requires-clause-workers g c =
-    let may = g.C.Clock.may_give c.args.host.now.clock.now in
-    let shows = g.H.L.Link.shows in
-    let store = c.args.store.now in
-    let new : List (Worker g.row.H-L.Denot) = c.run-beats.new.workers in
-    let old : List (Worker g.row.H-L.Denot) = c.hire-first.result.1.items in
-    let was = c.as_mut_slice.ensures.value in
-    let long : length new ≡ length old = c.run-beats.ensures.long
-    ∙ ap (λ (l : List (Worker g.row.H-L.Denot)). length l) was in
-    let served = subst (λ (l : List (Worker g.row.H-L.Denot)). HaveServed store may shows l new) was
-    c.run-beats.ensures.served in
-    let back = put_back new old c.hire-first.result.1.len long
-    (let e = c.hire-first.result.1.ok.0 in omega (arith, e)) in
-    subst (λ (l : List (Worker g.row.H-L.Denot)). AllByRecursion (IsHis store) l) (sym back)
-    (all_his store may shows old new served long)
+pub join_crew-pass-requires-clause-workers : goal.join_crew-pass-requires-clause-workers
+join_crew-pass-requires-clause-workers g c =
+    all_his c.args.store.now (g.C.Clock.may_give c.args.host.now.clock.now) g.H.L.Link.shows g.H.D.Door.shows
+    c.hire_all-first.result.1.workers.items c.run-beats.new.crew.workers.items c.run-beats.ensures.served
+    c.run-beats.ensures.long
 
 pub returns-clause-lived : goal.returns-clause-lived
 returns-clause-lived g c =
@@ -199,7 +222,7 @@ returns-clause-lived g c =
     let targets = map target_of c.args.plan.contacts.items in
     let pulse = c.args.plan.pulse in
     let old_hub = hub_seen (g.H.Hub.faults c.args.hub.now) (g.H.Hub.asked c.args.hub.now) in
-    let new_hub = hub_seen (g.H.Hub.faults c.open_links.new.hub) (g.H.Hub.asked c.open_links.new.hub) in
+    let new_hub = hub_seen (g.H.Hub.faults c.open_door.new.hub) (g.H.Hub.asked c.open_door.new.hub) in
     let old = known c.args.pass in
     let pass = c.submit_all.new.pass in
     let mid = known pass in
@@ -207,62 +230,66 @@ returns-clause-lived g c =
     let share = still_whole s ids old mid c.requires.new sub in
     let first = c.split-first.result.0 in
     let heart = c.split-first.result.1 in
-    let now = c.hire-first.result.0 in
+    let now = c.hire_all-first.result.0 in
+    let crew : Crew g.row.H-L.Denot g.row.H-D.Denot = c.hire_all-first.result.1 in
+    let after : Crew g.row.H-L.Denot g.row.H-D.Denot = c.run-beats.new.crew in
     let linked = c.in-Ok-open_links.ensures.linked in
     let peers : List (Peer g.row.H-L.Denot) = c.in-Ok-open_links.peers.items in
-    let hired : List (Worker g.row.H-L.Denot) = c.hire-first.result.1.items in
-    let ended : List (Worker g.row.H-L.Denot) = c.run-beats.new.workers in
-    let h = c.hire-first.ensures in
+    let hired : List (Worker g.row.H-L.Denot) = crew.workers.items in
+    let ended : List (Worker g.row.H-L.Denot) = after.workers.items in
+    let address = c.args.plan.door in
+    let doors = g.H.D.Door.shows in
+    let door = c.in-Ok-open_door.door in
+    let h = c.hire_all-first.ensures in
     let a = c.split-first.ensures.first in
     let b = c.split-first.ensures.second in
-    let was = c.as_mut_slice.ensures.value in
-    let long : length ended ≡ length hired = c.run-beats.ensures.long
-    ∙ ap (λ (l : List (Worker g.row.H-L.Denot)). length l) was in
-    let served = subst (λ (l : List (Worker g.row.H-L.Denot)). HaveServed store may shows l ended) was
-    c.run-beats.ensures.served in
-    let back = put_back ended hired c.hire-first.result.1.len long
-    (let e = c.hire-first.result.1.ok.0 in omega (arith, e)) in
-    let all = c.join_all-pass.result in
-    let joins = subst
-    (λ (l : List (Worker g.row.H-L.Denot)). known all ≡ joined_all (known c.join-one.result) (map knows l))
-    back c.join_all-pass.ensures.known in
-    let each = subst
-    (λ (l : List (Worker g.row.H-L.Denot)). AllByRecursion (HasSeen (known all).seen) l)
-    back c.join_all-pass.ensures.each in
+    let all = c.join_crew-pass.result in
     let o1 = output (g.O.Sink.held c.args.sink.now) (g.O.Sink.faults c.args.sink.now) in
     let o2 = output (g.O.Sink.held c.run-beats.new.sink) (g.O.Sink.faults c.run-beats.new.sink) in
     let o3 = output (g.O.Sink.held c.take_last-last.new.sink) (g.O.Sink.faults c.take_last-last.new.sink) in
     let beats = c.run-beats.result in
     let last = c.take_last-last.result in
     let new = known c.take_last-last.new.pass in
-    let j : Joined store may shows pulse now heart c.run-beats.new.pass c.join-one.result all o1 o2 beats hired ended = record {
+    let j : Joined store may shows doors pulse now heart c.run-beats.new.pass c.join-one.result all o1 o2 beats
+    crew.porter after.porter hired ended = record {
       beating = c.run-beats.ensures.heartbeat;
-      served = served;
-      long = long;
+      served = c.run-beats.ensures.served;
+      long = c.run-beats.ensures.long;
       join = c.join-one.ensures.known;
       first_seen = c.join-one.ensures.one;
       beat_seen = c.join-one.ensures.other;
-      joins = joins;
-      one_seen = c.join_all-pass.ensures.first;
-      each = each;
-      all = are_all store pass first heart now peers hired h a b share;
+      keeping = c.run-beats.ensures.kept;
+      joins = c.join_crew-pass.ensures.known;
+      kept_seen = c.join_crew-pass.ensures.porter;
+      one_seen = c.join_crew-pass.ensures.first;
+      each = c.join_crew-pass.ensures.each;
+      all = are_all store pass first heart now peers door crew h a b share;
     } in
-    let same = same_peers store pass first heart now peers hired h a b in
-    let told = subst (λ (ps : List (Peer g.row.H-L.Denot)). AllByRecursion (IsAsTold gives shows) ps)
+    let same = same_peers store pass first heart now peers door crew h a b in
+    let told = subst (λ (ps : List (Peer g.row.H-L.Denot)). AllByRecursion (IsAsTold gives.links shows) ps)
     (sym same) linked.told in
     let members = linked.members ∙ sym (same_members c.args.plan.contacts.items) in
-    let by_peers = worked_from s pulse (map member_of peers) mid (known now) (known all) o1 o2 beats
-    (same_mine store pass first heart now peers hired h a b)
-    (same_seen store pass first heart now peers hired h a b)
+    let is_door : IsDoor gives.door doors address crew.porter.door = subst
+    (λ (it : Option g.row.H-D.Denot). IsDoor gives.door doors address it) (sym h.door)
+    (subst (λ (it : Option Doorway). IsDoor it doors address door) c.in-Ok-open_links.ensures.door
+    c.in-Ok-open_door.ensures.opened) in
+    let by_peers = worked_from s pulse address (map member_of peers) mid (known now) (known all) o1 o2 beats
+    (same_mine store pass first heart now peers door crew h a b)
+    (same_seen store pass first heart now peers door crew h a b)
     (subst
     (λ (ps : List (Peer g.row.H-L.Denot)).
-    Worked s pulse (map member_of ps) (known now) o1 beats (known all) o2) same
-    (worked store may shows pulse now heart c.run-beats.new.pass c.join-one.result
-    all o1 o2 beats hired ended j gives told)) in
-    let by_targets = subst (λ (ms : List ℕ). Worked s pulse ms mid o1 beats (known all) o2) members by_peers in
-    lived s (doing_of ids targets pulse old_hub new_hub o1 o3) old mid new (end.Ran beats last) c.requires.new sub
-    (lives_ran s pulse targets ids old_hub new_hub mid (known all) new o1 o2 o3 beats last
-    c.in-Ok-open_links.ensures.asked by_targets c.take_last-last.ensures.last)
+    Worked s pulse address (map member_of ps) (known now) o1 beats (known all) o2) same
+    (worked store may shows doors pulse now heart c.run-beats.new.pass c.join-one.result
+    all o1 o2 beats crew.porter after.porter hired ended j gives address is_door told)) in
+    let by_targets = subst (λ (ms : List ℕ). Worked s pulse address ms mid o1 beats (known all) o2) members by_peers in
+    let links = subst (λ (told : Option (List Target)). AddsTold (g.H.Hub.asked c.args.hub.now).links told targets)
+    (sym c.in-Ok-open_door.ensures.links) c.in-Ok-open_links.ensures.asked in
+    let doored = subst
+    (λ (told : Option (List (List ℕ))). IsDoorAsked address told (g.H.Hub.asked c.open_door.new.hub).doors)
+    c.in-Ok-open_links.ensures.doors c.in-Ok-open_door.ensures.asked in
+    lived s (doing_of ids targets address pulse old_hub new_hub o1 o3) old mid new (end.Ran beats last) c.requires.new sub
+    (lives_ran s pulse targets address ids old_hub new_hub mid (known all) new o1 o2 o3 beats last
+    links doored by_targets c.take_last-last.ensures.last)
 
 pub returns-then-not-can_run-clause-told : goal.returns-then-not-can_run-clause-told
 returns-then-not-can_run-clause-told g c =
@@ -280,6 +307,10 @@ pub returns-in-Err-OutOfMemory-clause-told : goal.returns-in-Err-OutOfMemory-cla
 returns-in-Err-OutOfMemory-clause-told g c =
     untold g.D.Board.show_gives (start_of c.args.store.now) c.args.bulletin.now (known c.submit_all.new.pass).seen
 
+pub returns-in-Err-open_door-clause-told : goal.returns-in-Err-open_door-clause-told
+returns-in-Err-open_door-clause-told g c =
+    untold g.D.Board.show_gives (start_of c.args.store.now) c.args.bulletin.now (known c.submit_all.new.pass).seen
+
 pub returns-in_default-clause-told : goal.returns-in_default-clause-told
 returns-in_default-clause-told g c =
     untold g.D.Board.show_gives (start_of c.args.store.now) c.args.bulletin.now (known c.submit_all.new.pass).seen
@@ -290,8 +321,8 @@ returns-clause-told g c =
     let start = start_of c.args.store.now in
     let old = c.args.bulletin.now in
     let new = c.run-beats.new.bulletin in
-    let all = (known c.join_all-pass.result).seen in
+    let all = (known c.join_crew-pass.result).seen in
     still_told gives start old new all (known c.take_last-last.new.pass).seen c.take_last-last.ensures.last.made.begins
-    (still_told gives start old new (known c.join-one.result).seen all c.join_all-pass.ensures.first
+    (still_told gives start old new (known c.join-one.result).seen all c.join_crew-pass.ensures.first
     (still_told gives start old new (known c.run-beats.new.pass).seen (known c.join-one.result).seen
     c.join-one.ensures.other c.run-beats.ensures.told))

@@ -19,7 +19,7 @@ returns-clause-run g c =
     let gives = g.H.Hub.gives c.args.hub.now in
     let o1 = output (g.O.Sink.held c.args.sink.now) (g.O.Sink.faults c.args.sink.now) in
     let o2 = output (g.O.Sink.held c.live-end.new.sink) (g.O.Sink.faults c.live-end.new.sink) in
-    let d = doing_of c.args.plan.submits.items (map target_of c.args.plan.contacts.items) c.args.plan.pulse
+    let d = doing_of c.args.plan.submits.items (map target_of c.args.plan.contacts.items) c.args.plan.door c.args.plan.pulse
     (hub_seen (g.H.Hub.faults c.args.hub.now) (g.H.Hub.asked c.args.hub.now))
     (hub_seen (g.H.Hub.faults c.live-end.new.hub) (g.H.Hub.asked c.live-end.new.hub)) o1 o2 in
     let end = c.live-end.result.0 in
