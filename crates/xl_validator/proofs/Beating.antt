@@ -1,5 +1,5 @@
 -- Which calls of a history are timers: those of its heartbeat.
-use Rattle.std.proofs.Common.{◌≡◌, ◌<◌, ◌⊎◌, ◌++◌, ◌∷◌, Bool, true, false, ℕ, List, [], length, map, Some, inl, inr, refl, sym, ap, ◌∙◌, subst, arith, ⊎_elim, append_assoc, append-nil}
+use Rattle.std.proofs.Common.{◌≡◌, ◌<◌, ◌⊎◌, ◌++◌, ◌∷◌, Bool, true, false, ℕ, Option, None, Some, List, [], length, map, inl, inr, refl, sym, ap, ◌∙◌, subst, arith, ⊎_elim, append_assoc, append-nil}
 use Rattle.std.specs.Prelude.{slice_get, if◌then◌else◌}
 use Rattle.std.specs.List.{AllByRecursion, flat_map}
 use Rattle.std.proofs.lemmas.Grind.{flat_map-append}
@@ -16,6 +16,11 @@ use Rattle.xl_store.proofs.Journals.{length_calls}
 use Rattle.xl_peers.specs.Steps.{Step, Read, MayTell, call_in, calls, drain, frame, greet, stop_step}
 use Rattle.xl_peers.specs.Sessions.{Phase, IsSession}
 use Rattle.xl_peers.specs.Serving.{Deed, Asked, Opened, Talked, Round, IsServing, calls_in}
+use Rattle.xl_door.specs.declared.ends.Attended.{Attended}
+use Rattle.xl_door.specs.declared.ends.Attended.TheVariants as attended
+use Rattle.xl_door.specs.declared.replies.Reply.TheVariants as reply
+use Rattle.xl_door.specs.Attending.{last_calls}
+use Rattle.xl_door.specs.Rounds as rounds
 use Rattle.xl_heartbeat.specs.declared.ends.Ending.{Ending}
 use Rattle.xl_heartbeat.specs.declared.ends.Ending.TheVariants as ending
 use Rattle.xl_heartbeat.specs.declared.ends.BeatEnd.{BeatEnd}
@@ -32,7 +37,7 @@ use Rattle.xl_heartbeat.proofs.Leading.{led_on}
 use Rattle.xl_heartbeat.specs.Relisting.{made_at, Relists}
 use Rattle.xl_workers.specs.Pairing.{Paired}
 use Rattle.xl_workers.specs.Submits.{IsSubmit}
-use Rattle.xl_workers.specs.Sharing.{Setting, ServePart, SharedOut, SubmitPart, merge_all}
+use Rattle.xl_workers.specs.Sharing.{Setting, DoorIf, ServePart, SharedOut, SubmitPart, merge_all}
 use Rattle.xl_validator.specs.Ends.{AreBeats, IsBeat, IsNoTimer, StandsIn}
 use Rattle.xl_validator.proofs.Timers.{HoldsAt, InSome, IsLastAt, all_append, at_place, in_all_below, in_append, in_merge_all}
 use Rattle.xl_validator.proofs.Timers.{last_of, some_same}
@@ -83,6 +88,42 @@ submit_others may_give (id ∷ ids) [] p = absurd p
 submit_others may_give (id ∷ ids) (c ∷ cs) p =
     (subst IsNoTimer (sym p.0.2) tt, submit_others may_give ids cs p.1)
 
+door_others : (may_give : ℕ → Bool) (round : rounds.Round) → rounds.IsRound may_give round
+    → AllByRecursion IsOther (rounds.calls_in round)
+door_others may_give rounds.Quiet is = (tt, tt)
+door_others may_give (rounds.Heard line calls reply.Taken taken) is =
+    (tt, subst (AllByRecursion IsOther) (sym is.0.4) (tt, tt))
+door_others may_give (rounds.Heard line calls (reply.Refused why) taken) is =
+    (tt, subst (AllByRecursion IsOther) (sym is.0.4) (tt, tt))
+door_others may_give (rounds.Heard line calls reply.NoId taken) is =
+    (tt, subst (AllByRecursion IsOther) (sym is.0.2) tt)
+door_others may_give (rounds.Heard line calls reply.TooLong taken) is =
+    (tt, subst (AllByRecursion IsOther) (sym is.0.1) tt)
+door_others may_give (rounds.Heard line calls reply.NoTurn taken) is =
+    (tt, subst (AllByRecursion IsOther) (sym is.0.1) tt)
+
+doors_others : (may_give : ℕ → Bool) (all : List rounds.Round) → AllByRecursion (rounds.IsRound may_give) all
+    → AllByRecursion IsOther (flat_map rounds.calls_in all)
+doors_others may_give [] each = tt
+doors_others may_give (round ∷ all) each =
+    all_append IsOther (rounds.calls_in round) (flat_map rounds.calls_in all) (door_others may_give round each.0)
+    (doors_others may_give all each.1)
+
+last_others : (why : Attended) → AllByRecursion IsOther (last_calls why)
+last_others attended.Stopped = (tt, tt)
+last_others (attended.StoreFull n) = tt
+
+-- a porter's calls are no timers
+gate_others : (s : Setting) (door : Option (List ℕ)) (history : List Entry) (gate : List ℕ) → DoorIf s door history gate
+    → (q : ℕ) → StandsIn q gate → HoldsAt IsOther (calls_of s.start history) q
+gate_others s None history gate none q here = absurd (subst (StandsIn q) none here)
+gate_others s (Some address) history gate part q here =
+    let attending = part.attends.attending in
+    at_place IsOther (calls_of s.start history) gate (flat_map rounds.calls_in attending.rounds ++ last_calls part.why)
+    part.stand.at
+    (all_append IsOther (flat_map rounds.calls_in attending.rounds) (last_calls part.why)
+    (doors_others s.may_give attending.rounds attending.each) (last_others part.why)) q here
+
 taking_others : (end : Ending) (handed : List Report) → AllByRecursion IsOther (taking_calls end handed)
 taking_others ending.Done handed = (tt, tt)
 taking_others ending.WriteFault handed = (tt, tt)
@@ -107,10 +148,10 @@ parts_others s history (m ∷ members) (ps ∷ parts) p q (inr there) =
     parts_others s history members parts p.1 q there
 
 -- of a history whose places are shared out each call is the heartbeat's, or no timer
-module _ (s : Setting) (pulse : Pulse) (members : List ℕ) (history : List Entry) (ids : List TxId) (submits : List ℕ)
+module _ (s : Setting) (pulse : Pulse) (door : Option (List ℕ)) (members : List ℕ) (history : List Entry) (ids : List TxId) (submits : List ℕ)
     (ended : BeatEnd) (last : Ending) (old new : Output)
     (sub : SubmitPart s history ids submits)
-    (out : SharedOut s pulse members history submits ended last old new) where
+    (out : SharedOut s pulse door members history submits ended last old new) where
   abbrev all_calls : List Call
   all_calls = calls_of s.start history
 
@@ -119,18 +160,21 @@ module _ (s : Setting) (pulse : Pulse) (members : List ℕ) (history : List Entr
       let below : q < length history = let e = length_calls s.start history in omega (arith, lt, e) in
       let there = subst (λ (l : List ℕ). StandsIn q l) (sym out.all) (in_all_below q (length history) below) in
       ⊎_elim
-      (λ (merged : StandsIn q (merge_all submits (out.beat ∷ out.parts))). ⊎_elim
+      (λ (merged : StandsIn q (merge_all submits (out.beat ∷ out.gate ∷ out.parts))). ⊎_elim
       (λ (submit : StandsIn q submits).
       inr (at_place IsOther all_calls submits sub.calls sub.stand.at (submit_others s.may_give ids sub.calls sub.each) q submit))
-      (λ (part : InSome q (out.beat ∷ out.parts)). ⊎_elim
+      (λ (part : InSome q (out.beat ∷ out.gate ∷ out.parts)). ⊎_elim
       (λ (beat : StandsIn q out.beat). inl beat)
+      (λ (others : InSome q (out.gate ∷ out.parts)). ⊎_elim
+      (λ (gate : StandsIn q out.gate). inr (gate_others s door history out.gate out.attending q gate))
       (λ (served : InSome q out.parts). inr (parts_others s history members out.parts out.serving q served))
+      others)
       part)
-      (in_merge_all q submits (out.beat ∷ out.parts) merged))
+      (in_merge_all q submits (out.beat ∷ out.gate ∷ out.parts) merged))
       (λ (end : StandsIn q out.end).
       inr (at_place IsOther all_calls out.end (taking_calls last out.handed) out.ending.stand.at
       (taking_others last out.handed) q end))
-      (in_append q (merge_all submits (out.beat ∷ out.parts)) out.end there)
+      (in_append q (merge_all submits (out.beat ∷ out.gate ∷ out.parts)) out.end there)
 
 -- A HEARTBEAT THAT IS OVER
 
@@ -321,12 +365,12 @@ no_timer calls place now b is other =
     subst IsOther same other.2
 
 -- the beats of a history whose places are shared out
-pub beats_of : (s : Setting) (pulse : Pulse) (members : List ℕ) (history : List Entry) (ids : List TxId)
+pub beats_of : (s : Setting) (pulse : Pulse) (door : Option (List ℕ)) (members : List ℕ) (history : List Entry) (ids : List TxId)
     (submits : List ℕ) (ended : BeatEnd) (last : Ending) (old new : Output)
     (sub : SubmitPart s history ids submits)
-    (out : SharedOut s pulse members history submits ended last old new)
+    (out : SharedOut s pulse door members history submits ended last old new)
     → AreBeats pulse.rolls pulse.publishing (calls_of s.start history)
-beats_of s pulse members history ids submits ended last old new sub out =
+beats_of s pulse door members history ids submits ended last old new sub out =
     let all = calls_of s.start history in
     let f = far s.may_give pulse out.calls out.beating.phase out.beating.run in
     let stops = stop_calls ended.stop in
@@ -344,7 +388,7 @@ beats_of s pulse members history ids submits ended last old new sub out =
       timers = λ place now b is. ⊎_elim
           (λ (mine : StandsIn place out.beat). mine)
           (λ (other : HoldsAt IsOther all place). absurd (no_timer all place now b is other))
-          (beat_or_other s pulse members history ids submits ended last old new sub out place
+          (beat_or_other s pulse door members history ids submits ended last old new sub out place
           (slice_get_within all place (timer now b) is));
     }
 
@@ -373,19 +417,19 @@ no_beats s pulse history ids submits sub alone =
     }
 
 -- the last timer of the history is that of the last beat
-pub last_timer : (s : Setting) (pulse : Pulse) (members : List ℕ) (history : List Entry) (ids : List TxId)
+pub last_timer : (s : Setting) (pulse : Pulse) (door : Option (List ℕ)) (members : List ℕ) (history : List Entry) (ids : List TxId)
     (submits : List ℕ) (ended : BeatEnd) (last : Ending) (old new : Output)
     (sub : SubmitPart s history ids submits)
-    (out : SharedOut s pulse members history submits ended last old new)
+    (out : SharedOut s pulse door members history submits ended last old new)
     (o : IsOverAt s.may_give pulse out.calls)
     → IsLastAt IsOther (calls_of s.start history) (timer o.now o.beat)
-last_timer s pulse members history ids submits ended last old new sub out o =
+last_timer s pulse door members history ids submits ended last old new sub out o =
     let all = calls_of s.start history in
     let stops = stop_calls ended.stop in
     let parts : out.calls ++ stops ≡ o.earlier ++ timer o.now o.beat ∷ reports o.handed ∷ stops =
     ap (λ (l : List Call). l ++ stops) o.parts
     ∙ append_assoc o.earlier (timer o.now o.beat ∷ reports o.handed ∷ []) stops in
-    last_of IsOther all out.beat (beat_or_other s pulse members history ids submits ended last old new sub out) o.earlier
+    last_of IsOther all out.beat (beat_or_other s pulse door members history ids submits ended last old new sub out) o.earlier
     (timer o.now o.beat) (reports o.handed ∷ stops)
     (subst (λ (l : List Call). map (slice_get all) out.beat ≡ map Some l) parts out.beating.stand.at)
     (subst (λ (n : ℕ). Rise 0 out.beat n) (sym (length_calls s.start history)) out.beating.stand.rise)

@@ -5,7 +5,7 @@ use Rattle.xl_base.specs.Faults.{Rose}
 use Rattle.xl_base.specs.declared.status.Status.{Status}
 use Rattle.xl_base.specs.declared.status.Status.TheVariants as status
 use Rattle.xl_io.specs.Keepers.{Held}
-use Rattle.xl_links.specs.Links.{Wire}
+use Rattle.xl_links.specs.Requests.{Offers}
 use Rattle.xl_turns.specs.Histories.{IsLegal}
 use Rattle.xl_core.specs.Core.{Core}
 use Rattle.xl_store.specs.declared.entry.Entry.{Entry}
@@ -72,7 +72,7 @@ at_some {A} P o x is p = let all : IfSome (Some x) P = subst (λ (q : Option A).
 module _ {K O : Type 0}
     (held_by : K → Option Held) (saves_of : K → Option (List ℕ)) (faults_of : K → ℕ)
     (load_gives : K → ℕ → K → Type 0) (save_gives : K → ℕ → Bool → K → Type 0)
-    (s : Settings) (moment kept : ℕ) (may_give : ℕ → Bool) (links : ℕ → Option Wire)
+    (s : Settings) (moment kept : ℕ) (may_give : ℕ → Bool) (links : Offers)
     (old_hub new_hub : HubSeen) (before reported after : Output) (old_output new_output end_output : O)
     (old loaded kept_by new : K) (ended end : Status) (ran journal : Option (List Entry)) where
   abbrev at_run : Between
@@ -237,7 +237,7 @@ module _ {R : Type 0} (settings_in : R → CoreSettings) (now_in kept_in : R →
 
 -- the histories of runs are legal
 pub legal_of : {K : Type 0} (held_by : K → Option Held) (saves_of : K → Option (List ℕ)) (faults_of : K → ℕ) (save_gives : K → ℕ → Bool → K → Type 0)
-    (start : Core) (task : Task) (may_give : ℕ → Bool) (links : ℕ → Option Wire) (outside : Between) (old new : K) (end : Status) (ran : Option (List Entry))
+    (start : Core) (task : Task) (may_give : ℕ → Bool) (links : Offers) (outside : Between) (old new : K) (end : Status) (ran : Option (List Entry))
     → IfSome ran (λ history. Goes held_by saves_of faults_of save_gives start task may_give links outside old new end history)
     → IfSome ran (λ history. IsLegal Leads start history)
 legal_of held_by saves_of faults_of save_gives start task may_give links outside old new end None goes = tt

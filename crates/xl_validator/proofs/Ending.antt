@@ -6,7 +6,7 @@ use Rattle.xl_base.specs.declared.ids.TxId.{TxId}
 use Rattle.xl_base.specs.declared.status.Status.{Status}
 use Rattle.xl_base.specs.declared.status.Status.TheVariants as status
 use Rattle.xl_io.specs.Keepers.{Held}
-use Rattle.xl_links.specs.Links.{Wire}
+use Rattle.xl_links.specs.Requests.{Offers}
 use Rattle.xl_turns.specs.Places.{all_below}
 use Rattle.xl_core.specs.declared.timer_answer.TimerAnswer.{TimerAnswer}
 use Rattle.xl_store.specs.declared.entry.Entry.{Entry}
@@ -163,7 +163,7 @@ module _ (s : Setting) (d : Doing) (history : List Entry) where
         now = o.now;
         beat = o.beat;
         over = o.over;
-        last = last_timer s d.pulse (map member_in d.targets) history done submits ended last d.old_output d.new_output sub out o;
+        last = last_timer s d.pulse d.door (map member_in d.targets) history done submits ended last d.old_output d.new_output sub out o;
       }
   timed done submits ends.NetFault sub by is = absurd cc
   timed done submits ends.OutOfMemory sub by is = absurd cc
@@ -207,7 +207,7 @@ module _ (s : Setting) (d : Doing) (history : List Entry) where
   beaten : (done : List TxId) (submits : List ℕ) (e : RunEnd) → SubmitPart s history done submits
       → EndsBy s d history done submits e → AreBeats d.pulse.rolls d.pulse.publishing H
   beaten done submits (ends.Ran ended last) sub by =
-      beats_of s d.pulse (map member_in d.targets) history done submits ended last d.old_output d.new_output sub by.1
+      beats_of s d.pulse d.door (map member_in d.targets) history done submits ended last d.old_output d.new_output sub by.1
   beaten done submits ends.NetFault sub by = no_beats s d.pulse history done submits sub by.1.all
   beaten done submits ends.OutOfMemory sub by = no_beats s d.pulse history done submits sub by.1.all
   beaten done submits ends.TooFewThreads sub by = no_beats s d.pulse history done submits sub by.1.all
@@ -220,7 +220,7 @@ module _ (s : Setting) (d : Doing) (history : List Entry) where
 module _ {K : Type 0}
     (held_by : K → Option Held) (saves_of : K → Option (List ℕ)) (faults_of : K → ℕ)
     (load_gives : K → ℕ → K → Type 0) (save_gives : K → ℕ → Bool → K → Type 0)
-    (may_give : ℕ → Bool) (links : ℕ → Option Wire) (old new : K)
+    (may_give : ℕ → Bool) (links : Offers) (old new : K)
     (s : Settings) (moment : ℕ) (between : Between) (ended : Status) (history : List Entry)
     (run : HasRun held_by saves_of faults_of load_gives save_gives s moment may_give links between old new ended history) where
   abbrev made : List Call
@@ -259,7 +259,7 @@ module _ {K : Type 0}
 module _ {K O : Type 0}
     (held_by : K → Option Held) (saves_of : K → Option (List ℕ)) (faults_of : K → ℕ)
     (load_gives : K → ℕ → K → Type 0) (save_gives : K → ℕ → Bool → K → Type 0)
-    (input : Option (List ℕ)) (may_give : ℕ → Bool) (links : ℕ → Option Wire) (outside : Between)
+    (input : Option (List ℕ)) (may_give : ℕ → Bool) (links : Offers) (outside : Between)
     (old_output new_output : O) (old new : K) where
   -- by the run of a node with this status
   abbrev Ran : Settings → ℕ → Between → Status → List Entry → Type 0

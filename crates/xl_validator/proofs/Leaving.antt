@@ -3,7 +3,7 @@ use Rattle.std.proofs.Common.{◌≡◌, Bool, ◌≤◌, ℕ, List, length, Opt
 use Rattle.xl_base.specs.declared.status.Status.{Status}
 use Rattle.xl_base.specs.declared.status.Status.TheVariants as status
 use Rattle.xl_io.specs.Keepers.{Held}
-use Rattle.xl_links.specs.Links.{Wire}
+use Rattle.xl_links.specs.Requests.{Offers}
 use Rattle.xl_turns.specs.Histories.{IsLegal, Runs}
 use Rattle.xl_core.specs.Core.{Core}
 use Rattle.xl_store.specs.declared.entry.Entry.{Entry}
@@ -24,7 +24,7 @@ use Rattle.xl_validator.proofs.Causes.{known_end, keeps_no_fault, write_cause, n
 module _ {K O : Type 0}
     (held_by : K → Option Held) (saves_of : K → Option (List ℕ)) (faults_of : K → ℕ)
     (save_gives : K → ℕ → Bool → K → Type 0)
-    (start : Core) (task : Task) (may_give : ℕ → Bool) (links : ℕ → Option Wire) (outside : Between)
+    (start : Core) (task : Task) (may_give : ℕ → Bool) (links : Offers) (outside : Between)
     (old_output new_output : O) (old new : K) (end : Status) (journal : Option (List Entry)) where
   abbrev pub Left : Status → Option (List Entry) → Type 0
   Left s j =
@@ -35,7 +35,7 @@ module _ {K O : Type 0}
       → end ≡ status_of_end e → new ≡ kept → journal ≡ Some history
       → IsLegal Leads start history
       → NodeRun (setting start task.turns may_give links)
-      (doing_of task.submits task.targets task.pulse
+      (doing_of task.submits task.targets task.door task.pulse
       outside.old_hub outside.new_hub outside.old_output outside.new_output) e history
       → KeepsAll held_by saves_of faults_of save_gives start history old kept
       → length history ≤ task.turns
@@ -88,7 +88,7 @@ module _ {K O : Type 0}
       → MatchResult ran (λ r. journal ≡ Some (history_of r)) (λ _. journal ≡ None)
       → IfOk ran (λ r. Runs Leads start (history_of r) (core_of r))
       → IfOk ran (λ r. NodeRun (setting start task.turns may_give links)
-      (doing_of task.submits task.targets task.pulse
+      (doing_of task.submits task.targets task.door task.pulse
       outside.old_hub outside.new_hub outside.old_output outside.new_output) (end_of r) (history_of r))
       → IfOk ran (λ r. KeepsAll held_by saves_of faults_of save_gives start (history_of r) old (kept_by r))
       → IfOk ran (λ r. length (history_of r) ≤ task.turns)
@@ -103,7 +103,7 @@ module _ {K O : Type 0}
 module _ {K : Type 0}
     (held_by : K → Option Held) (saves_of : K → Option (List ℕ)) (faults_of : K → ℕ)
     (load_gives : K → ℕ → K → Type 0) (save_gives : K → ℕ → Bool → K → Type 0)
-    (may_give : ℕ → Bool) (links : ℕ → Option Wire) (outside : Between)
+    (may_give : ℕ → Bool) (links : Offers) (outside : Between)
     (old loaded new : K) (end : Status) (s : Settings) (moment kept : ℕ) where
   -- a node that ran over the core of these settings ran by them
   pub ran_by : (core : Core) (task : Task) (journal : Option (List Entry)) → core ≡ opening_core s moment kept

@@ -96,21 +96,23 @@ pub same_pulse : (s : Settings) (moment : ℕ) (list : TrustedList) → list ≡
     } in p) ≡ pulse_of s moment
 same_pulse s moment list same rolls looked = rw same (rw looked refl)
 
-abbrev task : ℕ → List TxId → List Target → Pulse → Task
-task turns submits targets pulse = record { turns = turns; submits = submits; targets = targets; pulse = pulse }
+abbrev task : ℕ → List TxId → List Target → Option (List ℕ) → Pulse → Task
+task turns submits targets door pulse =
+    record { turns = turns; submits = submits; targets = targets; door = door; pulse = pulse }
 
 pub same_task : (s : Settings) (moment : ℕ) (plan : Plan) → plan.turns ≡ s.turns → plan.submits.items ≡ s.submit
-    → map target_of plan.contacts.items ≡ map target_at s.peers → plan.pulse ≡ pulse_of s moment
+    → map target_of plan.contacts.items ≡ map target_at s.peers → plan.door ≡ s.submit_at → plan.pulse ≡ pulse_of s moment
     → task_in plan ≡ task_of s moment
-same_task s moment plan turns submits targets pulse =
-    ap (λ (x : ℕ). task x plan.submits.items (map target_of plan.contacts.items) plan.pulse) turns
-    ∙ ap (λ (x : List TxId). task s.turns x (map target_of plan.contacts.items) plan.pulse) submits
-    ∙ ap (λ (x : List Target). task s.turns s.submit x plan.pulse) targets
-    ∙ ap (λ (x : Pulse). task s.turns s.submit (map target_at s.peers) x) pulse
+same_task s moment plan turns submits targets door pulse =
+    ap (λ (x : ℕ). task x plan.submits.items (map target_of plan.contacts.items) plan.door plan.pulse) turns
+    ∙ ap (λ (x : List TxId). task s.turns x (map target_of plan.contacts.items) plan.door plan.pulse) submits
+    ∙ ap (λ (x : List Target). task s.turns s.submit x plan.door plan.pulse) targets
+    ∙ ap (λ (x : Option (List ℕ)). task s.turns s.submit (map target_at s.peers) x plan.pulse) door
+    ∙ ap (λ (x : Pulse). task s.turns s.submit (map target_at s.peers) s.submit_at x) pulse
 
-module _ (s : Settings) (pulse : Pulse) (core : Core) (plan : Plan) (is : IsPlan s.turns s.submit s.peers pulse plan) where
+module _ (s : Settings) (pulse : Pulse) (core : Core) (plan : Plan) (is : IsPlan s.turns s.submit s.peers s.submit_at pulse plan) where
   pub the_task : (moment : ℕ) → pulse ≡ pulse_of s moment → task_in plan ≡ task_of s moment
-  the_task moment same = same_task s moment plan is.turns is.submits is.targets (is.pulse ∙ same)
+  the_task moment same = same_task s moment plan is.turns is.submits is.targets is.door (is.pulse ∙ same)
 
   pub is_ready : (keys : Ring) (peers : List Peer) → map setting_of peers ≡ s.peers → All (HasKey keys) peers
       → core.node.keys ≡ keys → AreRunnable s → IsReady (record { core = core; plan = plan })

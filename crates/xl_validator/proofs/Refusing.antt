@@ -6,7 +6,7 @@ use Rattle.xl_base.specs.declared.status.Status.TheVariants as status
 use Rattle.xl_io.specs.Keepers.{Held}
 use Rattle.xl_io.specs.Sinks.{GrewByFront}
 use Rattle.xl_io.proofs.Growing.{append_known-none}
-use Rattle.xl_links.specs.Links.{Wire}
+use Rattle.xl_links.specs.Requests.{Offers}
 use Rattle.xl_store.specs.declared.entry.Entry.{Entry}
 use Rattle.xl_settings.specs.declared.fault.SettingsFault.{SettingsFault}
 use Rattle.xl_settings.specs.declared.fault.SettingsFault.TheVariants.{Refused}
@@ -71,7 +71,7 @@ not_unread end known (inr is) = subst IsOfNode is known
 module _ {K O : Type 0}
     (held_by : K → Option Held) (saves_of : K → Option (List ℕ)) (faults_of : K → ℕ)
     (load_gives : K → ℕ → K → Type 0) (save_gives : K → ℕ → Bool → K → Type 0)
-    (input : Option (List ℕ)) (may_give : ℕ → Bool) (links : ℕ → Option Wire) (outside : Between)
+    (input : Option (List ℕ)) (may_give : ℕ → Bool) (links : Offers) (outside : Between)
     (old_output new_output : O) (old new : K) (end : Status) (journal : Option (List Entry))
     (moment : ℕ) (given : may_give moment ≡ true) where
   abbrev pub AreJudged : Type 0

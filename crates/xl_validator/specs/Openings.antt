@@ -61,11 +61,13 @@ number_of peer = peer.number
 abbrev pub target_at : PeerSetting → Target
 target_at peer = record { member = peer.number; reach = peer.reach }
 
--- what a run is to do: its turns, the ids that it submits, the links that it opens, and what its heartbeat goes by
+-- what a run is to do: its turns, the ids that it submits, the links and the door that it opens, and what its heartbeat
+-- goes by
 pub record Task : Type 0 where
   pub turns : ℕ
   pub submits : List TxId
   pub targets : List Target
+  pub door : Option (List ℕ)
   pub pulse : Pulse
 
 abbrev pub task_of : Settings → ℕ → Task
@@ -73,5 +75,6 @@ task_of s moment = record {
   turns = s.turns;
   submits = s.submit;
   targets = map target_at s.peers;
+  door = s.submit_at;
   pulse = pulse_of s moment;
 }

@@ -8,7 +8,7 @@ use Rattle.xl_base.specs.declared.ids.TxId.{TxId}
 use Rattle.xl_base.specs.declared.status.Status.{Status}
 use Rattle.xl_base.specs.declared.status.Status.TheVariants as status
 use Rattle.xl_io.specs.Keepers.{Held}
-use Rattle.xl_links.specs.Links.{Wire}
+use Rattle.xl_links.specs.Requests.{Offers}
 use Rattle.xl_tags.specs.Rings.{key_of}
 use Rattle.xl_core.specs.Core.{Core}
 use Rattle.xl_store.specs.declared.entry.Entry.{Entry}
@@ -28,6 +28,7 @@ task_in plan = record {
   turns = plan.turns;
   submits = plan.submits.items;
   targets = map target_of plan.contacts.items;
+  door = plan.door;
   pulse = plan.pulse;
 }
 
@@ -38,11 +39,12 @@ pub record IsReady (prepared : Prepared) : Type 0 where
   pub once : IsDistinct nat_eq (map contact_of prepared.plan.contacts.items)
   pub few : length prepared.plan.contacts.items ≤ 64
 
--- a plan of this many turns, which submits these ids, serves these peers, and beats so
-pub record IsPlan (limit : ℕ) (ids : List TxId) (peers : List PeerSetting) (beats : Pulse) (plan : Plan) : Type 0 where
+-- a plan of this many turns, which submits these ids, serves these peers, opens this door, and beats so
+pub record IsPlan (limit : ℕ) (ids : List TxId) (peers : List PeerSetting) (door : Option (List ℕ)) (beats : Pulse) (plan : Plan) : Type 0 where
   pub turns : plan.turns ≡ limit
   pub submits : plan.submits.items ≡ ids
   pub targets : map target_of plan.contacts.items ≡ map target_at peers
+  pub door : plan.door ≡ door
   pub pulse : plan.pulse ≡ beats
   pub numbers : AllByRecursion IsNumber plan.contacts.items
 
@@ -50,7 +52,7 @@ pub record IsPlan (limit : ℕ) (ids : List TxId) (peers : List PeerSetting) (be
 pub record Leaves {K O : Type 0}
     (held_by : K → Option Held) (saves_of : K → Option (List ℕ)) (faults_of : K → ℕ)
     (save_gives : K → ℕ → Bool → K → Type 0)
-    (start : Core) (task : Task) (may_give : ℕ → Bool) (links : ℕ → Option Wire) (outside : Between)
+    (start : Core) (task : Task) (may_give : ℕ → Bool) (links : Offers) (outside : Between)
     (old_output new_output : O) (old new : K) (end : Status) (journal : Option (List Entry)) : Type 0 where
   pub goes : IfSome journal (λ history. Goes held_by saves_of faults_of save_gives
       start task may_give links outside old new end history)

@@ -6,7 +6,7 @@ use Rattle.xl_base.specs.declared.status.Status.{Status}
 use Rattle.xl_base.specs.declared.status.Status.TheVariants as status
 use Rattle.xl_io.specs.Keepers.{Held, MayHold, holding}
 use Rattle.xl_io.specs.Sinks.{GrewByFront}
-use Rattle.xl_links.specs.Links.{Wire}
+use Rattle.xl_links.specs.Requests.{Offers}
 use Rattle.xl_turns.specs.Histories.{IsLegal}
 use Rattle.xl_store.specs.declared.entry.Entry.{Entry}
 use Rattle.xl_store.specs.Calls.{calls_of}
@@ -73,12 +73,12 @@ module _ {K : Type 0}
     (save_gives : K → ℕ → Bool → K → Type 0) where
   -- A run over an open core: the journal of its store is a legal history of the core, whose places are shared out; it
   -- leaves the keeper; and its end is the status
-  pub record Goes (start : Core) (task : Task) (may_give : ℕ → Bool) (links : ℕ → Option Wire) (outside : Between)
+  pub record Goes (start : Core) (task : Task) (may_give : ℕ → Bool) (links : Offers) (outside : Between)
       (old new : K) (end : Status) (history : List Entry) : Type 0 where
     pub run_end : RunEnd
     pub legal : IsLegal Leads start history
     pub run : NodeRun (setting start task.turns may_give links)
-        (doing_of task.submits task.targets task.pulse
+        (doing_of task.submits task.targets task.door task.pulse
         outside.old_hub outside.new_hub outside.old_output outside.new_output) run_end history
     pub keeps : KeepsAll held_by saves_of faults_of save_gives start history old new
     pub limit : length history ≤ task.turns
@@ -97,7 +97,7 @@ module _ {K : Type 0}
 
   -- A node ran by these settings: it was opened at this moment, with the number that its keeper loaded; and no list of
   -- its publishers was refused
-  pub record HasRun (s : Settings) (moment : ℕ) (may_give : ℕ → Bool) (links : ℕ → Option Wire) (outside : Between)
+  pub record HasRun (s : Settings) (moment : ℕ) (may_give : ℕ → Bool) (links : Offers) (outside : Between)
       (old new : K) (end : Status) (history : List Entry) : Type 0 where
     pub kept : ℕ
     pub loaded : K
@@ -107,7 +107,7 @@ module _ {K : Type 0}
     pub set : AreSet (rolls_of s) s.publishing (opening_core s moment kept) history
 
   -- a node ran by the settings that the input held at the moment of its opening, and its journal isn't written
-  abbrev pub IsNodeRun : Option (List ℕ) → ℕ → (ℕ → Bool) → (ℕ → Option Wire) → Between → K → K → Status → List Entry
+  abbrev pub IsNodeRun : Option (List ℕ) → ℕ → (ℕ → Bool) → Offers → Between → K → K → Status → List Entry
       → Type 0
   IsNodeRun input moment may_give links outside old new end history =
       (s : Settings)
@@ -116,7 +116,7 @@ module _ {K : Type 0}
       × HasRun s moment may_give links outside old new end history
 
   -- A node ran by these settings up to an output, and ended so that its journal is written behind it
-  pub record HasRecorded (s : Settings) (moment : ℕ) (may_give : ℕ → Bool) (links : ℕ → Option Wire) (outside : Between)
+  pub record HasRecorded (s : Settings) (moment : ℕ) (may_give : ℕ → Bool) (links : Offers) (outside : Between)
       (old new : K) (end : Status) : Type 0 where
     pub history : List Entry
     pub ended : Status
@@ -134,7 +134,7 @@ module _ {K : Type 0}
     pub yes : is_over end ≡ true → SaysYes (text_of s moment run.kept history) (length history)
 
   -- by the settings that the input held
-  abbrev pub IsRecordedRun : Option (List ℕ) → ℕ → (ℕ → Bool) → (ℕ → Option Wire) → Between → K → K → Status → Type 0
+  abbrev pub IsRecordedRun : Option (List ℕ) → ℕ → (ℕ → Bool) → Offers → Between → K → K → Status → Type 0
   IsRecordedRun input moment may_give links outside old new end =
       (s : Settings)
       × IfSome input (λ bytes. settings_of bytes moment ≡ Ok s)
@@ -142,7 +142,7 @@ module _ {K : Type 0}
 
   -- A whole run of the command. There is one moment, which the clock may give, at which the settings are judged and at
   -- which the core is opened
-  pub record Judges {O : Type 0} (input : Option (List ℕ)) (may_give : ℕ → Bool) (links : ℕ → Option Wire)
+  pub record Judges {O : Type 0} (input : Option (List ℕ)) (may_give : ℕ → Bool) (links : Offers)
       (outside : Between) (old_output new_output : O) (old new : K) (end : Status) (journal : Option (List Entry))
       : Type 0 where
     pub moment : ℕ

@@ -10,7 +10,7 @@ use crate::contacts::contacts_of;
 use crate::keys::keys_of;
 use crate::naming::nameable;
 use std::alloc::Global;
-use xl_base::{Millis, NodeNo, OutOfMemory, Seq, TxIds};
+use xl_base::{Bytes, Millis, NodeNo, OutOfMemory, Seq, TxIds};
 use xl_board::FilePath;
 use xl_core::Core;
 use xl_heartbeat::{Pulse, RollsText, Timing};
@@ -60,6 +60,7 @@ pub(crate) fn prepare(alloc: Global, judged: Judged, kept: Seq) -> Result<Prepar
         journal,
         status: _,
         rolls,
+        submit_at,
     } = settings;
     let pulse = Pulse {
         timing: Timing {
@@ -79,7 +80,7 @@ pub(crate) fn prepare(alloc: Global, judged: Judged, kept: Seq) -> Result<Prepar
         validating,
         speak,
     };
-    let plan = plan_of(alloc, turns, journal, submit, peers, pulse)?;
+    let plan = plan_of(alloc, turns, journal, submit, peers, submit_at, pulse)?;
     match Core::open(alloc, settings, now, kept) {
         Ok(core) => Ok(Prepared { core, plan }),
         Err(_) => Err(OutOfMemory),
@@ -106,9 +107,10 @@ fn plan_of(
     keeps: bool,
     submit: TxIds,
     peers: Peers,
+    door: Option<Bytes>,
     pulse: Pulse,
 ) -> Result<Plan, OutOfMemory>
-    ensures plan { IfOk result (IsPlan turns submit peers pulse) }
+    ensures plan { IfOk result (IsPlan turns submit peers door pulse) }
     ensures keeps { IfOk result (λ plan. plan.keeps ≡ keeps) }
 {
     let submits = match Vec::from_slice(alloc, submit.as_slice()) {
@@ -121,6 +123,7 @@ fn plan_of(
             keeps,
             submits,
             contacts,
+            door,
             pulse,
         }),
         Err(_) => Err(OutOfMemory),

@@ -8,6 +8,7 @@ returns-in-Ok-contacts_of c = record {
     turns = refl;
     submits = c.in-Ok.ensures.items ∙ c.as_slice.ensures;
     targets = c.in-Ok-contacts_of.ensures.each ∙ ap (map target_at) c.into_vec.ensures;
+    door = refl;
     pulse = refl;
     numbers = c.in-Ok-contacts_of.ensures.numbers;
   };
