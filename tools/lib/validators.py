@@ -39,14 +39,15 @@ def free_ports(count):
 class Pairs:
     """A key and an address for each two nodes, of which the first listens, and a transaction that all submit. Members that
     are this program come behind the nodes, and dial all. The nodes dial at fronts, if these are asked for, behind which the
-    addresses stand."""
+    addresses stand. Clients come in at doors, if these are asked for."""
 
-    def __init__(self, count, others, away=None, has_fronts=False):
+    def __init__(self, count, others, away=None, has_fronts=False, has_doors=False):
         self.of = {}
         self.fronts = {}
         self.transaction = secrets.token_hex(32)
         members = count + others
-        ports = free_ports(members * (members - 1) + 1)
+        ports = free_ports(members * (members - 1) + 1 + count)
+        self.doors = {me: ("127.0.0.1", ports.pop()) for me in range(1, count + 1)} if has_doors else {}
         self.away = (away, ("127.0.0.1", ports.pop())) if away else None
         for first in range(1, members + 1):
             for second in range(first + 1, members + 1):
@@ -63,6 +64,10 @@ class Pairs:
         if way == "dial" and pair in self.fronts:
             host, port = self.fronts[pair]
         return f'[[peer]]\nnumber = {other}\nkey = "{key.hex()}"\n{way} = "{host}:{port}"\n'
+
+    def door(self, me):
+        """The lines of the settings that name where clients come in."""
+        return [f'submit_at = "{host}:{port}"' for host, port in [self.doors[me]]] if self.doors else []
 
     def peer_away(self):
         """The same of a member that is away, at whose address a stranger listens."""
@@ -165,6 +170,7 @@ def settings(me, members, pairs, trust, milliseconds, asked):
         "limit = 262144",
         f'submit = ["{transaction}"]',
         *(["journal = true"] if asked.journal else []),
+        *pairs.door(me),
         "",
     ]
     peers = "".join(pairs.peer(me, other) for other in members if other != me)
