@@ -1,5 +1,5 @@
 -- One link more is opened.
-use Rattle.std.proofs.Common.{◌≡◌, ◌≢◌, ◌+◌, ℕ, false, Option, List, [], ◌∷◌, ◌++◌, length, map, refl, sym, ap, ◌∙◌, arith, append_assoc, append-nil, length-append, subst, inl, inr}
+use Rattle.std.proofs.Common.{◌≡◌, ◌≢◌, ◌+◌, ℕ, false, Option, List, [], ◌∷◌, ◌++◌, length, map, refl, sym, ap, ◌∙◌, arith, append_assoc, append-nil, length-append, subst}
 use Rattle.std.specs.Prelude.{nat_eq, IfSome}
 use Rattle.std.proofs.lemmas.List.{map-append}
 use Rattle.std.specs.List.{AllByRecursion, IsDistinct}
@@ -10,7 +10,7 @@ use Rattle.xl_links.specs.Ways.{Target}
 use Rattle.xl_peers.proofs.Growing.{tells_nothing, tells_both}
 use Rattle.xl_workers.specs.declared.plan.Contact.{Contact}
 use Rattle.xl_workers.specs.declared.linking.Peer.{Peer}
-use Rattle.xl_workers.specs.Linking.{contact_of, member_of, member_in, target_of, HubSeen, hub_seen, AsksLinks, AsksFront, IsDoorAsked, IsAsTold, AreLinked}
+use Rattle.xl_workers.specs.Linking.{contact_of, member_of, member_in, target_of, HubSeen, hub_seen, AsksLinks, IsAsTold, AreLinked}
 use Rattle.xl_workers.proofs.Pairs.{all_more}
 
 -- the targets of contacts have their members
@@ -60,16 +60,6 @@ none_front old new targets same = record {
   asked = subst (λ (told : Option (List Target)). AddsTold old.asked.links told []) (sym same)
       (tells_nothing old.asked.links);
 }
-
--- no door was asked for
-pub undoored : (old new : HubSeen) (targets : List Target) (door : Option (List ℕ)) → AsksLinks old targets new
-    → new.asked.doors ≡ old.asked.doors → AsksFront old targets door new
-undoored old new targets door links same = record { links = links; door = inl same }
-
--- a door was asked for, or none is to be
-pub doored : (old new : HubSeen) (targets : List Target) (door : Option (List ℕ)) → AsksLinks old targets new
-    → IsDoorAsked door old.asked.doors new.asked.doors → AsksFront old targets door new
-doored old new targets door links asked = record { links = links; door = inr asked }
 
 -- the hub tells of this contact's link what it told at first
 abbrev pub IsStill : (ℕ → Option Wire) → (ℕ → Option Wire) → Contact → Type 0

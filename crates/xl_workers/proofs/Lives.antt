@@ -1,5 +1,5 @@
 -- A run, as its parts say it.
-use Rattle.std.proofs.Common.{◌≡◌, ◌≤◌, ℕ, Option, List, [], ◌∷◌, ◌++◌, length, length-append, map, refl, sym, ap, ◌∙◌, arith}
+use Rattle.std.proofs.Common.{◌≡◌, ◌≤◌, ◌⊎◌, ℕ, Option, List, [], ◌∷◌, ◌++◌, length, length-append, map, refl, sym, ap, ◌∙◌, arith}
 use mathlib.Core.List.{IsPrefix}
 use Rattle.xl_base.specs.Faults.{Rose}
 use Rattle.xl_base.specs.declared.ids.TxId.{TxId}
@@ -7,7 +7,6 @@ use Rattle.xl_turns.specs.declared.view.Knowledge.{Knowledge}
 use Rattle.xl_turns.specs.Knowing.{newcomer, all_shares}
 use Rattle.xl_turns.specs.Places.{all_below}
 use Rattle.xl_turns.proofs.Prefixes.{prefix_all, prefix_trans}
-use Rattle.xl_links.specs.Tellings.{AddsTold}
 use Rattle.xl_links.specs.Requests.{Requests}
 use Rattle.xl_links.specs.Ways.{Target}
 use Rattle.xl_core.specs.Core.{Core}
@@ -24,12 +23,12 @@ use Rattle.xl_heartbeat.specs.Outputs.{Output}
 use Rattle.xl_heartbeat.specs.Beats.{taking_calls, TakesReports}
 use Rattle.xl_workers.specs.declared.ends.RunEnd.{RunEnd}
 use Rattle.xl_workers.specs.declared.ends.RunEnd.TheVariants as end
-use Rattle.xl_workers.specs.Linking.{HubSeen, AsksFront, IsDoorAsked, member_in}
+use Rattle.xl_workers.specs.Linking.{HubSeen, AsksAll, AsksNoDoor, member_in}
 use Rattle.xl_workers.specs.Submits.{Submitted, SubmittedFront}
 use Rattle.xl_workers.specs.Sharing.{Setting, SharedOut, SubmitPart}
 use Rattle.xl_workers.specs.Runs.{Doing, doing_of}
 use Rattle.xl_workers.specs.Working.{Closes, Worked, TookLast, Lives, Lived, end_of}
-use Rattle.xl_workers.proofs.Links.{none_front, undoored}
+use Rattle.xl_workers.proofs.Links.{none_front}
 use Rattle.xl_workers.proofs.Shared.{stands, full_longer}
 use Rattle.xl_workers.proofs.Outcomes.{outputs}
 
@@ -101,13 +100,12 @@ module _ (s : Setting) where
 
   pub lives_ran : (pulse : Pulse) (targets : List Target) (door : Option (List ℕ)) (ids : List TxId) (old_hub new_hub : HubSeen)
       (old mid new : Knowledge Entry) (o1 o2 o3 : Output) (beats : BeatEnd) (last : Ending)
-      → AddsTold old_hub.asked.links new_hub.asked.links targets
-      → IsDoorAsked door old_hub.asked.doors new_hub.asked.doors
+      → AsksAll old_hub targets door new_hub
       → Worked s pulse door (map member_in targets) old o1 beats mid o2
       → TookLast s.start s.turns beats.run mid o2 last new o3
       → Lives s (doing_of ids targets door pulse old_hub new_hub o1 o3) ids (end.Ran beats last) old new
-  lives_ran pulse targets door ids old_hub new_hub old mid new o1 o2 o3 beats last asked doored w t = record {
-    asked = (asked, doored);
+  lives_ran pulse targets door ids old_hub new_hub old mid new o1 o2 o3 beats last asked w t = record {
+    asked = asked;
     share = t.made.share ∙ w.share;
     begins = prefix_trans old.seen mid.seen new.seen w.begins t.made.begins;
     by = λ history close all. (refl, shared_out pulse door (map member_in targets) old mid new o1 o2 o3 beats last w t history close all);
@@ -115,7 +113,7 @@ module _ (s : Setting) where
 
   -- nothing ran, if memory runs out
   pub lives_none : (d : Doing) (k : Knowledge Entry) → k.share ≡ all_shares → d.new_output ≡ d.old_output
-      → AsksFront d.old_hub d.targets d.door d.new_hub → Lives s d d.ids end.OutOfMemory k k
+      → AsksNoDoor d.old_hub d.targets d.new_hub → Lives s d d.ids end.OutOfMemory k k
   lives_none d k share silent asked = record {
     asked = asked;
     share = share;
@@ -125,7 +123,8 @@ module _ (s : Setting) where
 
   -- nothing ran, since the hub failed
   pub lives_unlinked : (d : Doing) (k : Knowledge Entry) → k.share ≡ all_shares → d.new_output ≡ d.old_output
-      → AsksFront d.old_hub d.targets d.door d.new_hub → Rose d.old_hub.faults d.new_hub.faults
+      → AsksNoDoor d.old_hub d.targets d.new_hub ⊎ AsksAll d.old_hub d.targets d.door d.new_hub
+      → Rose d.old_hub.faults d.new_hub.faults
       → Lives s d d.ids end.NetFault k k
   lives_unlinked d k share silent asked rose = record {
     asked = asked;
@@ -200,9 +199,10 @@ module _ (s : Setting) where
       submits = new.mine;
       submitting = front_part old new d.ids refused.OutOfMemory history first f close.begins;
       by = ((f.next ∷ f.rest, sym f.front), record { all = all; silent = silent });
-      asked = undoored d.old_hub d.new_hub d.targets d.door
-          (none_front d.old_hub d.new_hub d.targets (ap (λ (r : Requests). r.links) unasked))
-          (ap (λ (r : Requests). r.doors) unasked);
+      asked = record {
+        links = none_front d.old_hub d.new_hub d.targets (ap (λ (r : Requests). r.links) unasked);
+        doors = ap (λ (r : Requests). r.doors) unasked;
+      };
     };
   }
   lived_front d old new (refused.StoreFull n) first silent unasked f = record {

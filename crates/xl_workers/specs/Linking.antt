@@ -1,5 +1,5 @@
 -- The links that a hub opens, one to each member, and its door. Source: this project's own.
-use Rattle.std.specs.Prelude.{◌≡◌, ◌⊎◌, ℕ, List, [], ◌∷◌, map, IfSome, Some, None}
+use Rattle.std.specs.Prelude.{◌≡◌, ℕ, List, [], ◌∷◌, map, IfSome, Some, None}
 use mathlib.Core.List.{IsPrefix}
 use Rattle.std.specs.declared.option.Option.{Option}
 use Rattle.std.specs.List.{AllByRecursion}
@@ -40,10 +40,15 @@ abbrev pub IsDoorAsked : Option (List ℕ) → Option (List (List ℕ)) → Opti
 IsDoorAsked None old new = new ≡ old
 IsDoorAsked (Some address) old new = AddsTold old new (address ∷ [])
 
--- and perhaps for the door
-pub record AsksFront (old : HubSeen) (all : List Target) (door : Option (List ℕ)) (new : HubSeen) : Type 0 where
+-- it was asked for the first of these links, and for no door
+pub record AsksNoDoor (old : HubSeen) (all : List Target) (new : HubSeen) : Type 0 where
   pub links : AsksLinks old all new
-  pub door : (new.asked.doors ≡ old.asked.doors) ⊎ IsDoorAsked door old.asked.doors new.asked.doors
+  pub doors : new.asked.doors ≡ old.asked.doors
+
+-- it was asked for all of these links, and for the door, if there is an address
+pub record AsksAll (old : HubSeen) (all : List Target) (address : Option (List ℕ)) (new : HubSeen) : Type 0 where
+  pub links : AddsTold old.asked.links new.asked.links all
+  pub doors : IsDoorAsked address old.asked.doors new.asked.doors
 
 module _ {L : Type 0} where
   abbrev pub member_of : Peer L → ℕ

@@ -1,12 +1,11 @@
 -- A whole run of a node. Source: this project's own.
-use Rattle.std.specs.Prelude.{◌≡◌, ℕ, Option, List, [], ◌∷◌, ◌++◌, length, map}
+use Rattle.std.specs.Prelude.{◌≡◌, ◌⊎◌, ℕ, Option, List, [], ◌∷◌, ◌++◌, length, map}
 use mathlib.Core.List.{IsPrefix}
 use Rattle.xl_base.specs.Faults.{Rose}
 use Rattle.xl_base.specs.declared.ids.TxId.{TxId}
 use Rattle.xl_base.specs.declared.status.Status.{Status}
 use Rattle.xl_base.specs.declared.status.Status.TheVariants as status
 use Rattle.xl_turns.specs.Places.{all_below}
-use Rattle.xl_links.specs.Tellings.{AddsTold}
 use Rattle.xl_links.specs.Ways.{Target}
 use Rattle.xl_store.specs.declared.entry.Entry.{Entry}
 use Rattle.xl_heartbeat.specs.declared.pulse.Pulse.{Pulse}
@@ -14,7 +13,7 @@ use Rattle.xl_heartbeat.specs.Outputs.{Output}
 use Rattle.xl_heartbeat.specs.Statuses.{status_of_run}
 use Rattle.xl_workers.specs.declared.ends.RunEnd.{RunEnd}
 use Rattle.xl_workers.specs.declared.ends.RunEnd.TheVariants as end
-use Rattle.xl_workers.specs.Linking.{HubSeen, AsksFront, IsDoorAsked, member_in}
+use Rattle.xl_workers.specs.Linking.{HubSeen, AsksAll, AsksNoDoor, member_in}
 use Rattle.xl_workers.specs.Sharing.{Setting, SubmitPart, SharedOut}
 
 -- the status that a run ends with
@@ -57,14 +56,13 @@ pub record NoMore (d : Doing) (history : List Entry) (submits : List ℕ) : Type
 abbrev pub IsLess : List TxId → List TxId → Type 0
 IsLess done ids = (next : TxId) × (rest : List TxId) × (ids ≡ done ++ next ∷ rest)
 
--- What the hub was asked for: all links and the door if the workers ran, none if there were too few threads or a submit
--- had no turn, and else the first of the links, and perhaps the door
+-- What the hub was asked for: all links and the door if the workers ran, and nothing if there were too few threads or a
+-- submit had no turn. If memory ran out it was the first of the links, and if the hub failed it was either
 abbrev pub IsAsked : Doing → RunEnd → Type 0
-IsAsked d (end.Ran beats last) =
-    AddsTold d.old_hub.asked.links d.new_hub.asked.links d.targets
-    × IsDoorAsked d.door d.old_hub.asked.doors d.new_hub.asked.doors
-IsAsked d end.NetFault = AsksFront d.old_hub d.targets d.door d.new_hub
-IsAsked d end.OutOfMemory = AsksFront d.old_hub d.targets d.door d.new_hub
+IsAsked d (end.Ran beats last) = AsksAll d.old_hub d.targets d.door d.new_hub
+IsAsked d end.NetFault =
+    AsksNoDoor d.old_hub d.targets d.new_hub ⊎ AsksAll d.old_hub d.targets d.door d.new_hub
+IsAsked d end.OutOfMemory = AsksNoDoor d.old_hub d.targets d.new_hub
 IsAsked d end.TooFewThreads = d.new_hub.asked ≡ d.old_hub.asked
 IsAsked d (end.StoreFull n) = d.new_hub.asked ≡ d.old_hub.asked
 
@@ -87,8 +85,8 @@ EndsBy s d history done submits (end.StoreFull n) =
     × (n ≡ s.turns)
     × (length history ≡ s.turns)
 
--- The submits are of the first ids, in order and each once, the hub was asked for links and a door as the plan names them, and the
--- end says how many of both there are and what else there is
+-- The submits are of the first ids, in order and each once, the hub was asked for links and a door as the plan names
+-- them, and the end says how many of both there are and what else there is
 pub record NodeRun (s : Setting) (d : Doing) (end : RunEnd) (history : List Entry) : Type 0 where
   pub done : List TxId
   pub submits : List ℕ

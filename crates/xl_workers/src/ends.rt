@@ -13,7 +13,8 @@ pub enum RunEnd {
     NetFault,
     /// Memory ran out before the heartbeat and the workers ran. No door was opened.
     OutOfMemory,
-    /// A thread for each member, one for the door if there is one, and one more couldn't be started. Nothing happened at the core, and no link was opened.
+    /// A thread for each member, one for the door if there is one, and one more couldn't be started. Nothing happened at
+    /// the core, and no link was opened.
     TooFewThreads,
     /// A submit found all turns of the store drawn: it has this many. No link was opened.
     StoreFull(u64),

@@ -8,8 +8,8 @@
 //! It stands on the store of xl_store, the sessions of xl_peers, the door of xl_door, the heartbeat of xl_heartbeat and
 //! the hub of xl_links.
 //! Its one contract: the journal of the closed store is a legal history of the core that was handed in. Each place of
-//! it is one of the submits, of the heartbeat, of the porter, of the one worker of a member, or of the last reports. The output is
-//! the lines of what the reports handed out, and each end has its cause.
+//! it is one of the submits, of the heartbeat, of the porter, of the one worker of a member, or of the last reports. The
+//! output is the lines of what the reports handed out, and each end has its cause.
 #![tactic(auto)]
 
 mod ends;

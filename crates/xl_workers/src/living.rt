@@ -71,8 +71,9 @@ fn threads_beside(door: &Option<Bytes>) -> usize
     if door.is_some() { 2 } else { 1 }
 }
 
-/// Submits the ids, opens the links and the door, and has a porter and a worker for each peer beside the heartbeat. When all have ended, their
-/// passes are joined and the last reports are taken. If there aren't threads for all of them, nothing is done.
+/// Submits the ids, opens the links and the door, and has a porter and a worker for each peer beside the heartbeat. When
+/// all have ended, their passes are joined and the last reports are taken. If there aren't threads for all of them,
+/// nothing is done.
 pub(crate) fn live<
     W: Threads + Wait + Files + Sync,
     B: Branch + Drop + Send,

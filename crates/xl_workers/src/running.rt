@@ -39,12 +39,13 @@ pub struct Ran<B: Branch, K> {
 }
 
 /// Runs a validator over a core and its keeper. It submits the plan's ids, opens a link to each of its members and the
-/// door, if the plan has one, and serves all of these side by side with the heartbeat until that ends the run. The heartbeat tells on the bulletin, if there
-/// is one, how the node is. Then it takes the last reports and closes the store.
+/// door, if the plan has one, and serves all of these side by side with the heartbeat until that ends the run. The
+/// heartbeat tells on the bulletin, if there is one, how the node is. Then it takes the last reports and closes the store.
 ///
-/// Before all that it starts a thread for each member, one for the door and one more, which end at once: a run that has
-/// fewer would serve some members alone, and not say so. The members are peers of the core, and none stands twice. If there was no memory for the store, core and keeper
-/// come back, and nothing happened. What it leaves tells how every other run ended.
+/// Before all that it starts a thread for each member, one for the door if the plan has one, and one more, which end at
+/// once. A run that has fewer would serve some members alone, and not say so. The members are peers of the core, and none
+/// stands twice. If there was no memory for the store, core and keeper come back, and nothing happened. What it leaves
+/// tells how every other run ended.
 pub fn node<
     W: Threads + Wait + Files + Sync,
     B: Branch + Drop + Send,
@@ -74,7 +75,7 @@ pub fn node<
         core ran.closed.journal keeper ran.closed.keeper) }
     ensures limit { IfOk result (λ ran. length ran.closed.journal ≤ plan.turns) }
     ensures kept { IfOk result (λ ran. ran.closed.entries ≡ entries_if plan.keeps ran.closed.journal) }
-    // its places are shared out, its lines are the output, and the hub was asked for links and a door as the plan names them
+    // its places are shared out, its lines are the output, and the hub was asked for links and a door as the plan says
     ensures run { IfOk result (λ ran. NodeRun
         (setting core plan.turns (C.may_give host.now.clock.now) (H.gives hub.old))
         (doing_of plan.submits.items (map target_of plan.contacts.items) plan.door plan.pulse

@@ -1,6 +1,6 @@
 -- the pass begins with nothing known, and if there are too few threads it ends so; all ids are submitted before the links,
 -- or one has no turn; and the joined pass has seen all that the heartbeat and each worker had
-use Rattle.std.proofs.Common.{◌≡◌, ◌≤◌, ◌^◌, ℕ, Option, List, length, map, refl, sym, ap, ◌∙◌, subst, arith}
+use Rattle.std.proofs.Common.{◌≡◌, ◌≤◌, ◌^◌, ℕ, Option, List, length, map, refl, sym, ap, ◌∙◌, subst, arith, inl, inr}
 use Rattle.std.proofs.lemmas.List.{length-map}
 use Rattle.std.specs.Prelude.{IsSome}
 use Rattle.std.specs.List.{AllByRecursion}
@@ -25,7 +25,7 @@ use Rattle.xl_workers.specs.Sharing.{setting}
 use Rattle.xl_workers.specs.Runs.{doing_of}
 use Rattle.xl_workers.specs.Working.{Worked, Lived}
 use Rattle.xl_workers.proofs.Pairs.{all_of_map, index_all}
-use Rattle.xl_workers.proofs.Links.{same_members, all_front, doored, undoored}
+use Rattle.xl_workers.proofs.Links.{same_members, all_front}
 use Rattle.xl_workers.proofs.Starts.{enough_left, are_all, same_peers, same_mine, same_seen, worked_from}
 use Rattle.xl_workers.proofs.Shared.{Joined, all_his, worked}
 use Rattle.xl_workers.proofs.Lives.{lived, lived_unstarted, lived_front, lives_ran, lives_none, lives_unlinked, still_whole}
@@ -125,7 +125,7 @@ returns-in-Err-NetFault-clause-lived g c =
     let d = doing_of ids targets c.args.plan.door c.args.plan.pulse old_hub new_hub o o in
     lived s d old mid mid end.NetFault c.requires.new sub
     (lives_unlinked s d mid share refl
-    (undoored old_hub new_hub targets c.args.plan.door c.in-Err-NetFault.ensures.front c.in-Err-NetFault.ensures.doors)
+    (inl (record { links = c.in-Err-NetFault.ensures.front; doors = c.in-Err-NetFault.ensures.doors }))
     (c.in-Err-NetFault.ensures.failed c.in-Err-NetFault.field-0-is))
 
 pub returns-in-Err-OutOfMemory-clause-lived : goal.returns-in-Err-OutOfMemory-clause-lived
@@ -147,7 +147,7 @@ returns-in-Err-OutOfMemory-clause-lived g c =
     let d = doing_of ids targets c.args.plan.door c.args.plan.pulse old_hub new_hub o o in
     lived s d old mid mid end.OutOfMemory c.requires.new sub
     (lives_none s d mid share refl
-    (undoored old_hub new_hub targets c.args.plan.door c.in-Err-OutOfMemory.ensures.front c.in-Err-OutOfMemory.ensures.doors))
+    (record { links = c.in-Err-OutOfMemory.ensures.front; doors = c.in-Err-OutOfMemory.ensures.doors }))
 
 pub returns-in_default-clause-lived : goal.returns-in_default-clause-lived
 returns-in_default-clause-lived g c =
@@ -167,8 +167,11 @@ returns-in_default-clause-lived g c =
     let o = output (g.O.Sink.held c.args.sink.now) (g.O.Sink.faults c.args.sink.now) in
     let d = doing_of ids targets c.args.plan.door c.args.plan.pulse old_hub new_hub o o in
     lived s d old mid mid end.OutOfMemory c.requires.new sub
-    (lives_none s d mid share refl (undoored old_hub new_hub targets c.args.plan.door
-    (all_front old_hub new_hub targets c.in-Ok-open_links.ensures.asked) c.in-Ok-open_links.ensures.doors))
+    (lives_none s d mid share refl
+    (record {
+      links = all_front old_hub new_hub targets c.in-Ok-open_links.ensures.asked;
+      doors = c.in-Ok-open_links.ensures.doors;
+    }))
 
 pub returns-in-Err-open_door-clause-lived : goal.returns-in-Err-open_door-clause-lived
 returns-in-Err-open_door-clause-lived g c =
@@ -196,7 +199,7 @@ returns-in-Err-open_door-clause-lived g c =
     let earlier = c.in-Ok-open_links.ensures.later in
     let failed = c.in-Err-open_door.ensures.failed in
     lived s d old mid mid end.NetFault c.requires.new sub
-    (lives_unlinked s d mid share refl (doored old_hub new_hub targets door (all_front old_hub new_hub targets links) asked)
+    (lives_unlinked s d mid share refl (inr (record { links = links; doors = asked }))
     (omega (arith, earlier, failed)))
 
 pub run-beats-requires-clause-ready : goal.run-beats-requires-clause-ready
@@ -284,12 +287,12 @@ returns-clause-lived g c =
     let by_targets = subst (λ (ms : List ℕ). Worked s pulse address ms mid o1 beats (known all) o2) members by_peers in
     let links = subst (λ (told : Option (List Target)). AddsTold (g.H.Hub.asked c.args.hub.now).links told targets)
     (sym c.in-Ok-open_door.ensures.links) c.in-Ok-open_links.ensures.asked in
-    let doored = subst
+    let asked = subst
     (λ (told : Option (List (List ℕ))). IsDoorAsked address told (g.H.Hub.asked c.open_door.new.hub).doors)
     c.in-Ok-open_links.ensures.doors c.in-Ok-open_door.ensures.asked in
     lived s (doing_of ids targets address pulse old_hub new_hub o1 o3) old mid new (end.Ran beats last) c.requires.new sub
     (lives_ran s pulse targets address ids old_hub new_hub mid (known all) new o1 o2 o3 beats last
-    links doored by_targets c.take_last-last.ensures.last)
+    (record { links = links; doors = asked }) by_targets c.take_last-last.ensures.last)
 
 pub returns-then-not-can_run-clause-told : goal.returns-then-not-can_run-clause-told
 returns-then-not-can_run-clause-told g c =
