@@ -39,12 +39,13 @@ pub record IsReady (prepared : Prepared) : Type 0 where
   pub once : IsDistinct nat_eq (map contact_of prepared.plan.contacts.items)
   pub few : length prepared.plan.contacts.items ≤ 64
 
--- a plan of this many turns, which submits these ids, serves these peers, opens this door, and beats so
-pub record IsPlan (limit : ℕ) (ids : List TxId) (peers : List PeerSetting) (door : Option (List ℕ)) (beats : Pulse) (plan : Plan) : Type 0 where
+-- a plan of this many turns, which submits these ids, serves these peers, opens a door at this address, and beats so
+pub record IsPlan (limit : ℕ) (ids : List TxId) (peers : List PeerSetting) (address : Option (List ℕ)) (beats : Pulse)
+    (plan : Plan) : Type 0 where
   pub turns : plan.turns ≡ limit
   pub submits : plan.submits.items ≡ ids
   pub targets : map target_of plan.contacts.items ≡ map target_at peers
-  pub door : plan.door ≡ door
+  pub door : plan.door ≡ address
   pub pulse : plan.pulse ≡ beats
   pub numbers : AllByRecursion IsNumber plan.contacts.items
 

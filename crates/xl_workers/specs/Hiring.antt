@@ -32,11 +32,11 @@ module _ {B K L : Type 0} where
 
 module _ {B K L D : Type 0} where
   -- the porter has half of a pass and the door, and the workers have parts of the other half
-  pub record HiredAll (store : Store B K) (one : Pass Entry) (all : List (Peer L)) (door : Option D)
+  pub record HiredAll (store : Store B K) (one : Pass Entry) (all : List (Peer L)) (opened : Option D)
       (now : Pass Entry) (crew : Crew L D) : Type 0 where
     pub half : Pass Entry
     pub first : known half ≡ first_part (known one)
     pub second : known crew.porter.pass ≡ second_part (known one)
     pub pass : IsOf store crew.porter.pass
-    pub door : crew.porter.door ≡ door
+    pub door : crew.porter.door ≡ opened
     pub hired : Hired store half all now [] crew.workers.items
