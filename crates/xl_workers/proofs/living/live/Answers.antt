@@ -203,7 +203,7 @@ returns-in-Err-open_door-clause-lived g c =
     (omega (arith, earlier, failed)))
 
 pub run-beats-requires-clause-ready : goal.run-beats-requires-clause-ready
-run-beats-requires-clause-ready g c =
+run-beats-requires-clause-ready g c κs within =
     index_all (IsReady c.args.store.now) c.hire_all-first.result.1.workers.items c.hire_all-first.ensures.hired.ready
 
 pub join_crew-pass-requires-clause-workers : goal.join_crew-pass-requires-clause-workers
