@@ -27,7 +27,7 @@ fn a_client_says_lines_and_is_answered(rt: HostRuntime) -> Result<(), Fail> {
     client.write_all(b"one\nlonger than the room\ntwo\n")?;
     let mut room = [0; 8];
     assert!(rt; door.next(&mut room) == Arrival::Line(3));
-    assert!(rt; room[..3] == *b"one");
+    assert!(rt; &room[..3] == b"one".as_slice());
     assert!(rt; door.answer(b"yes\n").is_ok());
     assert!(rt; door.next(&mut room) == Arrival::Long);
     assert!(rt; door.answer(b"no\n").is_ok());
