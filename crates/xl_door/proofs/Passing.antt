@@ -1,11 +1,19 @@
 -- What a door gave and its clients took, one part behind the other.
-use Rattle.std.proofs.Common.{◌≡◌, ◌≤◌, ◌++◌, ◌⊎◌, ℕ, List, [], ◌∷◌, None, Some, Option, refl, sym, ap, ap₂, ◌∙◌, append_assoc, append-nil, arith, inl, inr}
-use Rattle.xl_base.specs.Faults.{Rose}
+use Rattle.std.proofs.Common.{◌≡◌, ◌≤◌, ◌++◌, ◌⊎◌, false, ℕ, List, [], ◌∷◌, None, Some, Option, length, refl, sym, ap, ◌∙◌, append_assoc, arith, inl, inr}
+use Rattle.std.specs.Prelude.{◌==◌, fold}
+use Rattle.std.proofs.lemmas.Bool.{cond_both}
+use Rattle.std.proofs.lemmas.Bool.Decides.{nat_tests}
 use Rattle.std.specs.Io.KnownBytes.{append_known}
+use Rattle.xl_base.specs.Counts.{one_more}
+use Rattle.xl_base.specs.Faults.{Rose}
 use Rattle.xl_io.proofs.Growing.{append_known-none, append_known-twice}
 use Rattle.xl_links.specs.Doors.{Doorway, line_before}
+use Rattle.xl_store.specs.Calls.{Call}
+use Rattle.xl_door.specs.declared.replies.Reply.{Reply}
 use Rattle.xl_door.specs.Attending.{Passes, lines_before}
 use Rattle.xl_door.specs.Hearing.{Tells}
+use Rattle.xl_door.specs.Rounds.{Round, Quiet, Heard, counted_in}
+use Rattle.xl_door.specs.Replies.{text_of}
 
 no_lines_before : (left : Option (List (List ℕ))) → left ≡ lines_before [] left
 no_lines_before None = refl
@@ -21,50 +29,63 @@ one_before line None = refl
 one_before line (Some lines) = refl
 
 -- nothing was said
-pub passes_none : (door : Doorway) → Passes door [] [] [] door
+pub passes_none : (door : Doorway) → Passes door [] [] door.faults door
 passes_none door = record {
   left = no_lines_before door.left;
   took = sym (append_known-none door.took);
-  all = inr refl;
-  later = omega arith;
+  counted = omega arith;
 }
 
-all_of_both : (a b c : ℕ) (xs us ys vs : List ℕ) → a ≤ b → b ≤ c → Rose a b ⊎ (xs ≡ us) → Rose b c ⊎ (ys ≡ vs)
-    → Rose a c ⊎ (xs ++ ys ≡ us ++ vs)
-all_of_both a b c xs us ys vs p q (inl r) h = inl (omega (arith, r, p, q))
-all_of_both a b c xs us ys vs p q (inr e) (inl r) = inl (omega (arith, r, p, q))
-all_of_both a b c xs us ys vs p q (inr e) (inr f) = inr (ap₂ ◌++◌ e f)
+-- the least count behind a round isn't less for a greater one before it
+counted_more : (a b : ℕ) (round : Round) → a ≤ b → counted_in a round ≤ counted_in b round
+counted_more a b Quiet le = le
+counted_more a b (Heard line calls reply taken) le =
+    cond_both (length taken == length (text_of reply)) a (one_more a)
+    (λ n. n ≤ counted_in b (Heard line calls reply taken))
+    (λ whole. cond_both (length taken == length (text_of reply)) b (one_more b) (λ n. a ≤ n) (λ _. le)
+    (λ cut. absurd cc))
+    (λ cut. cond_both (length taken == length (text_of reply)) b (one_more b) (λ n. one_more a ≤ n)
+    (λ whole. absurd cc) (λ _. omega (arith, le)))
 
-pub passes_both : (old mid new : Doorway) (xs ys : List (List ℕ)) (ts us vs ws : List ℕ) → Passes old xs ts vs mid
-    → Passes mid ys us ws new → Passes old (xs ++ ys) (ts ++ us) (vs ++ ws) new
-passes_both old mid new xs ys ts us vs ws p q = record {
+all_counted_more : (a b : ℕ) (rounds : List Round) → a ≤ b → fold counted_in a rounds ≤ fold counted_in b rounds
+all_counted_more a b [] le = le
+all_counted_more a b (round ∷ rounds) le =
+    all_counted_more (counted_in a round) (counted_in b round) rounds (counted_more a b round le)
+
+pub passes_both : (old mid new : Doorway) (xs ys : List (List ℕ)) (ts us : List ℕ) (least : ℕ) (rounds : List Round)
+    → Passes old xs ts least mid → Passes mid ys us (fold counted_in mid.faults rounds) new
+    → Passes old (xs ++ ys) (ts ++ us) (fold counted_in least rounds) new
+passes_both old mid new xs ys ts us least rounds p q = record {
   left = p.left ∙ ap (lines_before xs) q.left ∙ lines_before-twice xs ys new.left;
   took = q.took ∙ ap (λ (known : Option (List ℕ)). append_known known us) p.took ∙ append_known-twice old.took ts us;
-  all = all_of_both old.faults mid.faults new.faults ts vs us ws p.later q.later p.all q.all;
-  later = let a = p.later in let b = q.later in omega (arith, a, b);
+  counted = let a = all_counted_more least mid.faults rounds p.counted in let b = q.counted in omega (arith, a, b);
 }
 
-rose_earlier : (a b c : ℕ) (X : Type 0) → a ≤ b → Rose b c ⊎ X → Rose a c ⊎ X
-rose_earlier a b c X p (inl r) = inl (omega (arith, r, p))
-rose_earlier a b c X p (inr x) = inr x
+-- an answer that wasn't taken whole is counted
+counted_cut : (a b c : ℕ) (taken text : List ℕ) → (length taken == length text) ≡ false → a ≤ b
+    → Rose b c ⊎ (taken ≡ text) → one_more a ≤ c
+counted_cut a b c taken text cut le (inl rose) = omega (arith, rose, le)
+counted_cut a b c taken text cut le (inr same) =
+    let long = ap (length {A = ℕ}) same in absurd (grind (arith, nat_tests, cut, long))
 
 -- a line came, and was answered
-pub passes_line : (old mid new : Doorway) (line text : List ℕ) → old.left ≡ line_before line mid.left
-    → mid.took ≡ old.took → old.faults ≤ mid.faults → (t : Tells text mid new)
-    → Passes old (line ∷ []) t.taken text new
-passes_line old mid new line text left took later t = record {
+pub passes_line : (old mid new : Doorway) (line : List ℕ) (calls : List Call) (reply : Reply)
+    → old.left ≡ line_before line mid.left → mid.took ≡ old.took → old.faults ≤ mid.faults
+    → (t : Tells (text_of reply) mid new)
+    → Passes old (line ∷ []) t.taken (counted_in old.faults (Heard line calls reply t.taken)) new
+passes_line old mid new line calls reply left took later t = record {
   left = left ∙ ap (line_before line) (sym t.left) ∙ one_before line new.left;
   took = t.took ∙ ap (λ (known : Option (List ℕ)). append_known known t.taken) took;
-  all = rose_earlier old.faults mid.faults new.faults (t.taken ≡ text) later t.all;
-  later = let a = t.later in omega (arith, later, a);
+  counted = cond_both (length t.taken == length (text_of reply)) old.faults (one_more old.faults) (λ n. n ≤ new.faults)
+      (λ _. let a = t.later in omega (arith, later, a))
+      (λ cut. counted_cut old.faults mid.faults new.faults t.taken (text_of reply) cut later t.all);
 }
 
 -- none came
 pub passes_quiet : (old new : Doorway) → new.left ≡ old.left → new.took ≡ old.took → old.faults ≤ new.faults
-    → Passes old [] [] [] new
+    → Passes old [] [] old.faults new
 passes_quiet old new left took later = record {
   left = no_lines_before old.left ∙ ap (lines_before []) (sym left);
   took = took ∙ sym (append_known-none old.took);
-  all = inr refl;
-  later = later;
+  counted = later;
 }

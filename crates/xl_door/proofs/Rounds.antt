@@ -1,8 +1,8 @@
 -- Attending goes on by a round, or is over.
 use Rattle.std.proofs.Common.{◌≡◌, ◌<◌, ◌≤◌, ◌++◌, length, ℕ, Bool, true, false, Option, None, Some, List, [], ◌∷◌, refl, sym, ap, ◌∙◌, append_assoc, append-nil, arith, subst}
-use Rattle.std.specs.Prelude.{IfSome}
+use Rattle.std.specs.Prelude.{IfSome, fold}
 use Rattle.std.specs.List.{AllByRecursion, flat_map}
-use Rattle.std.proofs.lemmas.Grind.{flat_map-append}
+use Rattle.std.proofs.lemmas.Grind.{flat_map-append, fold-append}
 use Rattle.xl_turns.specs.declared.view.Knowledge.{Knowledge}
 use Rattle.xl_turns.specs.declared.pass.Pass.{Pass}
 use Rattle.xl_turns.specs.Passes.{known}
@@ -16,7 +16,7 @@ use Rattle.xl_store.specs.Stores.{start_of, turns_of, Refused}
 use Rattle.xl_store.proofs.Making.{made_none, made_both}
 use Rattle.xl_door.specs.declared.ends.Attended.{Attended}
 use Rattle.xl_door.specs.declared.ends.Attended.TheVariants as attended
-use Rattle.xl_door.specs.Rounds.{Round, Heard, IsRound, asked, calls_in, lines_in, taken_in, answer_in}
+use Rattle.xl_door.specs.Rounds.{Heard, IsRound, asked, calls_in, lines_in, taken_in, counted_in}
 use Rattle.xl_door.specs.Attending.{Attending, Attends, Follows, Passes, last_calls}
 use Rattle.xl_door.specs.declared.replies.Reply.{Reply}
 use Rattle.xl_door.specs.declared.replies.Reply.TheVariants as reply
@@ -39,7 +39,7 @@ module _ (start : Core) (may : ℕ → Bool) where
     is = (said.is, t.front);
     made = said.made;
     drawn = said.drawn;
-    door = passes_line d1 d2 d3 line (text_of reply) left took later t;
+    door = passes_line d1 d2 d3 line said.calls reply left took later t;
   }
 
   -- one that is too long has no calls
@@ -71,7 +71,7 @@ module _ (start : Core) (may : ℕ → Bool) where
   attending_both old mid new d1 d2 d3 last a b =
       let lines = flat_map-append lines_in a.rounds b.rounds in
       let taken = flat_map-append taken_in a.rounds b.rounds in
-      let answers = flat_map-append answer_in a.rounds b.rounds in
+      let counts = fold-append counted_in d1.faults a.rounds b.rounds in
       let calls = flat_map-append calls_in a.rounds b.rounds in
       record {
         rounds = a.rounds ++ b.rounds;
@@ -83,11 +83,11 @@ module _ (start : Core) (may : ℕ → Bool) where
             (made_both start old mid new (flat_map calls_in a.rounds ++ []) (flat_map calls_in b.rounds ++ last) a.made
             b.made);
         drawn = let p = a.drawn in let q = b.drawn in omega (arith, p, q);
-        door = subst (λ (it : List (List ℕ) × List ℕ × List ℕ). Passes d1 it.0 it.1 it.2 d3)
-            (λ i. (sym lines i, sym taken i, sym answers i))
+        door = subst (λ (it : List (List ℕ) × List ℕ × ℕ). Passes d1 it.0 it.1 it.2 d3)
+            (λ i. (sym lines i, sym taken i, sym counts i))
             (passes_both d1 d2 d3 (flat_map lines_in a.rounds) (flat_map lines_in b.rounds)
             (flat_map taken_in a.rounds) (flat_map taken_in b.rounds)
-            (flat_map answer_in a.rounds) (flat_map answer_in b.rounds) a.door b.door);
+            (fold counted_in d1.faults a.rounds) b.rounds a.door b.door);
       }
 
   -- what a round says behind the question whether to stop is a round
@@ -100,12 +100,8 @@ module _ (start : Core) (may : ℕ → Bool) where
         (sym (append-nil (calls_in h.round ++ []) ∙ append-nil (calls_in h.round)))
         (made_both start old mid new (asked false ∷ []) _ made h.made);
     drawn = let q = h.drawn in omega (arith, drawn, q);
-    door = subst (λ (it : List (List ℕ) × List ℕ × List ℕ). Passes d1 it.0 it.1 it.2 d2)
-        (λ i. (
-          sym (append-nil (lines_in h.round)) i,
-          sym (append-nil (taken_in h.round)) i,
-          sym (append-nil (answer_in h.round)) i,
-        ))
+    door = subst (λ (it : List (List ℕ) × List ℕ). Passes d1 it.0 it.1 (counted_in d1.faults h.round) d2)
+        (λ i. (sym (append-nil (lines_in h.round)) i, sym (append-nil (taken_in h.round)) i))
         h.door;
   }
 

@@ -1,6 +1,6 @@
 -- One line of a door, as the parts of a round say it.
 -- Source: what the code of this crate relies on. No public clause cites this file.
-use Rattle.std.specs.Prelude.{◌≡◌, ℕ, ◌≤◌, ◌⊎◌, Bool, List, [], ◌∷◌}
+use Rattle.std.specs.Prelude.{◌≡◌, ℕ, ◌≤◌, ◌⊎◌, Bool, List}
 use mathlib.Core.List.{IsPrefix}
 use Rattle.std.specs.Io.KnownBytes.{append_known}
 use Rattle.xl_base.specs.Faults.{Rose}
@@ -12,7 +12,7 @@ use Rattle.xl_store.specs.Calls.{Call, Made}
 use Rattle.xl_door.specs.declared.ends.Attended.{Attended}
 use Rattle.xl_door.specs.declared.ends.Attended.TheVariants as attended
 use Rattle.xl_door.specs.declared.replies.Reply.{Reply}
-use Rattle.xl_door.specs.Rounds.{Round, IsReply, IsRound, said_in, lines_in, taken_in, answer_in}
+use Rattle.xl_door.specs.Rounds.{Round, IsReply, IsRound, said_in, lines_in, taken_in, counted_in}
 use Rattle.xl_door.specs.Attending.{Passes}
 
 -- behind the question whether to stop, the pass made what a round says
@@ -22,7 +22,7 @@ pub record Hears (start : Core) (may_give : ℕ → Bool) (old : Knowledge Entry
   pub is : IsRound may_give round
   pub made : Made start old new (said_in round)
   pub drawn : old.drawn ≤ new.drawn
-  pub door : Passes old_door (lines_in round) (taken_in round) (answer_in round) new_door
+  pub door : Passes old_door (lines_in round) (taken_in round) (counted_in old_door.faults round) new_door
 
 -- the pass made the calls for a line that is answered so
 pub record IsSaid (start : Core) (may_give : ℕ → Bool) (old : Knowledge Entry) (line : List ℕ) (reply : Reply)

@@ -1,7 +1,8 @@
 -- What a worker at a door does, round by round: it asks whether the node is to stop, and then a line comes or none does.
 -- Source: this project's own.
-use Rattle.std.specs.Prelude.{◌≡◌, ℕ, ◌<◌, ◌≤◌, Bool, true, false, List, [], ◌∷◌, length, None, Some, IsSome}
+use Rattle.std.specs.Prelude.{◌≡◌, ℕ, ◌<◌, ◌≤◌, ◌==◌, Bool, true, false, List, [], ◌∷◌, length, None, Some, IsSome, if◌then◌else◌}
 use mathlib.Core.List.{IsPrefix}
+use Rattle.xl_base.specs.Counts.{one_more}
 use Rattle.xl_base.specs.declared.ids.TxId.{TxId}
 use Rattle.xl_core.specs.declared.event.CoreEvent.TheVariants.{Stopped, Submit}
 use Rattle.xl_core.specs.Answers.{Answer, Done, Told}
@@ -59,6 +60,8 @@ abbrev pub taken_in : Round → List ℕ
 taken_in Quiet = []
 taken_in (Heard line calls reply taken) = taken
 
-abbrev pub answer_in : Round → List ℕ
-answer_in Quiet = []
-answer_in (Heard line calls reply taken) = text_of reply
+-- the least that the door's count of faults is behind a round: one more unless the client took the whole answer
+abbrev pub counted_in : ℕ → Round → ℕ
+counted_in faults Quiet = faults
+counted_in faults (Heard line calls reply taken) =
+    if length taken == length (text_of reply) then faults else one_more faults
