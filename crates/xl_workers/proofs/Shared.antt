@@ -42,7 +42,7 @@ use Rattle.xl_workers.specs.Linking.{member_of, IsAsTold, IsDoor}
 use Rattle.xl_workers.specs.Doors.{AttendsIf, HasKept}
 use Rattle.xl_workers.specs.Serving.{HasServed, HaveServed, peer_of, share_of, IsFresh}
 use Rattle.xl_workers.specs.Joining.{joined_all, knows, IsHis, HasSeen}
-use Rattle.xl_workers.specs.Sharing.{Setting, setting, Stands, BeatPart, DoorIf, DoorPart, ServePart, IsFilled, IsFilledBehind, merge_all}
+use Rattle.xl_workers.specs.Sharing.{Setting, setting, Stands, BeatPart, DoorIf, ServePart, IsFilled, IsFilledBehind, merge_all}
 use Rattle.xl_workers.specs.Working.{AreAll, Closes, Worked}
 use Rattle.xl_workers.proofs.Pairs.{paired_at, paired_map, paired_sum, paired_all, paired_with, both_all, all_of_map, map_twice, sum_map}
 

@@ -1,5 +1,5 @@
 -- A heartbeat's pass and the workers' passes of one whole pass.
-use Rattle.std.proofs.Common.{◌≡◌, ℕ, ◌*◌, ◌^◌, ◌≤◌, Option, List, [], map, sym, ap, ◌∙◌, subst, arith, append-nil, ◌∷◌}
+use Rattle.std.proofs.Common.{◌≡◌, ℕ, ◌*◌, ◌^◌, ◌≤◌, Option, List, map, sym, ap, ◌∙◌, subst, arith, append-nil, ◌∷◌}
 use Rattle.std.proofs.lemmas.Nat.{pow_below}
 use Rattle.xl_turns.specs.declared.view.Knowledge.{Knowledge}
 use Rattle.xl_turns.specs.declared.pass.Pass.{Pass}
