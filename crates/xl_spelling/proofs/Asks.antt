@@ -35,11 +35,6 @@ pub ledger_id-read : (names : List Named) (t : List ℕ) (id : LedgerId) → IsI
 ledger_id-read names t id h e = ap (λ read. read >>= (λ i. Ok (record { 0 = i }))) (id-read names id.0 h) ∙ sym e
 
 pub issue-again : (reading : Reading) (old : List (List ℕ)) (a : Ask) → asked_issue reading old ≡ Ok a → IsStoredAsk a → IsAgain ask_words (asked_issue reading) (codes "issue") 100 old a
-issue-again reading [] a e stored = absurd (cc)
-issue-again reading (number ∷ []) a e stored = absurd (cc)
-issue-again reading (number ∷ sequence ∷ []) a e stored = absurd (cc)
-issue-again reading (number ∷ sequence ∷ id ∷ []) a e stored = absurd (cc)
-issue-again reading (number ∷ sequence ∷ id ∷ kind ∷ more ∷ rest) a e stored = absurd (cc)
 issue-again reading (number ∷ sequence ∷ id ∷ kind ∷ []) a e stored =
     let n = steps (declared_of reading.nodes number) (λ node. number_of sequence >>= (λ seq. ledger_id_of reading.names id >>= (λ ledger. full_of kind >>= (λ full. Ok (ask.Issue node seq ledger full))))) a e in
     let s = steps (number_of sequence) (λ seq. ledger_id_of reading.names id >>= (λ ledger. full_of kind >>= (λ full. Ok (ask.Issue n.value seq ledger full)))) a n.rest in
@@ -68,6 +63,7 @@ issue-again reading (number ∷ sequence ∷ id ∷ kind ∷ []) a e stored =
         omega (arith, node-small.few, seq-small.few, digits-small.few, full-small.few),
       );
     }
+issue-again reading other a e stored = absurd (cc)
 
 pub timer-again : (reading : Reading) (old : List (List ℕ)) (a : Ask) → asked_timer reading old ≡ Ok a → IsAgain ask_words (asked_timer reading) (codes "timer") 100 old a
 timer-again reading [] a e = absurd (cc)

@@ -36,17 +36,13 @@ module _ (reading : Reading) (are : AreSpelled reading.names) (token : List ℕ)
   -- ---- what is asked
 
   issue-ends : (old : List (List ℕ)) (a : Ask) → asked_issue reading old ≡ Ok a → EndsInk (token ∷ old)
-  issue-ends [] a e = absurd (cc)
-  issue-ends (number ∷ []) a e = absurd (cc)
-  issue-ends (number ∷ sequence ∷ []) a e = absurd (cc)
-  issue-ends (number ∷ sequence ∷ id ∷ []) a e = absurd (cc)
-  issue-ends (number ∷ sequence ∷ id ∷ kind ∷ more ∷ rest) a e = absurd (cc)
   issue-ends (number ∷ sequence ∷ id ∷ kind ∷ []) a e =
       let n = steps (declared_of reading.nodes number) (λ node. number_of sequence >>= (λ seq. ledger_id_of reading.names id >>= (λ ledger. full_of kind >>= (λ full. Ok (ask.Issue node seq ledger full))))) a e in
       let s = steps (number_of sequence) (λ seq. ledger_id_of reading.names id >>= (λ ledger. full_of kind >>= (λ full. Ok (ask.Issue n.value seq ledger full)))) a n.rest in
       let l = steps (ledger_id_of reading.names id) (λ ledger. full_of kind >>= (λ full. Ok (ask.Issue n.value s.value ledger full))) a s.rest in
       let f = steps (full_of kind) (λ full. Ok (ask.Issue n.value s.value l.value full)) a l.rest in
       kind-ink kind f.value f.gave
+  issue-ends other a e = absurd (cc)
 
   timer-ends : (old : List (List ℕ)) (a : Ask) → asked_timer reading old ≡ Ok a → EndsInk (token ∷ old)
   timer-ends [] a e = absurd (cc)
@@ -65,12 +61,6 @@ module _ (reading : Reading) (are : AreSpelled reading.names) (token : List ℕ)
   -- ---- lies
 
   proposal-ends : (old : List (List ℕ)) (l : Lied) → said_proposal reading.names old ≡ Ok l → EndsInk (token ∷ old)
-  proposal-ends [] l e = absurd (cc)
-  proposal-ends (a ∷ []) l e = absurd (cc)
-  proposal-ends (a ∷ b ∷ []) l e = absurd (cc)
-  proposal-ends (a ∷ b ∷ c ∷ []) l e = absurd (cc)
-  proposal-ends (a ∷ b ∷ c ∷ d ∷ []) l e = absurd (cc)
-  proposal-ends (a ∷ b ∷ c ∷ d ∷ f ∷ more ∷ rest) l e = absurd (cc)
   proposal-ends (before ∷ position ∷ changes ∷ second ∷ made ∷ []) l e =
       let p = steps (ledger_id_of reading.names before) (λ prev. set_id_of reading.names position >>= (λ set. number_of changes >>= (λ pseq. number_of second >>= (λ close. number_of made >>= (λ time. Ok (lied.Proposal (record { prev = prev; set = set; pseq = pseq; close = close; time = time }))))))) l e in
       let s = steps (set_id_of reading.names position) (λ set. number_of changes >>= (λ pseq. number_of second >>= (λ close. number_of made >>= (λ time. Ok (lied.Proposal (record { prev = p.value; set = set; pseq = pseq; close = close; time = time })))))) l p.rest in
@@ -78,6 +68,7 @@ module _ (reading : Reading) (are : AreSpelled reading.names) (token : List ℕ)
       let c = steps (number_of second) (λ close. number_of made >>= (λ time. Ok (lied.Proposal (record { prev = p.value; set = s.value; pseq = q.value; close = close; time = time })))) l q.rest in
       let m = steps (number_of made) (λ time. Ok (lied.Proposal (record { prev = p.value; set = s.value; pseq = q.value; close = c.value; time = time }))) l c.rest in
       number-inked made m.value m.gave
+  proposal-ends other l e = absurd (cc)
 
   -- the word and the last two tokens of a validation, of which the last may be lacking
   validation_parts-end : (sequence id second kind : List ℕ) (told : Option (List ℕ)) (l : Lied) → validation_of reading.names sequence id second kind (told_if reading.names told) ≡ Ok l → Ink kind × ((t : List ℕ) → told ≡ Some t → Ink t)
@@ -96,13 +87,9 @@ module _ (reading : Reading) (are : AreSpelled reading.names) (token : List ℕ)
           subst Ink (cc is) (ledger_id-ink reading.names are token i.value i.gave)
 
   validation-ends : (old : List (List ℕ)) (l : Lied) → said_validation reading.names old ≡ Ok l → EndsInk (token ∷ old)
-  validation-ends [] l e = absurd (cc)
-  validation-ends (a ∷ []) l e = absurd (cc)
-  validation-ends (a ∷ b ∷ []) l e = absurd (cc)
-  validation-ends (a ∷ b ∷ c ∷ []) l e = absurd (cc)
-  validation-ends (a ∷ b ∷ c ∷ d ∷ f ∷ more ∷ rest) l e = absurd (cc)
   validation-ends (sequence ∷ id ∷ second ∷ kind ∷ []) l e = (validation_parts-end sequence id second kind None l e).0
   validation-ends (sequence ∷ id ∷ second ∷ kind ∷ told ∷ []) l e = (validation_parts-end sequence id second kind (Some told) l e).1 told refl
+  validation-ends other l e = absurd (cc)
 
   header-ends : (old : List (List ℕ)) (l : Lied) → said_header reading.names old ≡ Ok l → EndsInk (token ∷ old)
   header-ends [] l e = absurd (cc)
@@ -202,15 +189,12 @@ module _ (reading : Reading) (are : AreSpelled reading.names) (sent : ℕ) (toke
       raw-ink digits r.value r.gave
 
   set_list-ends : (old : List (List ℕ)) (w : What) → set_list reading old ≡ Ok w → EndsInk (token ∷ old)
-  set_list-ends [] w e = absurd (cc)
-  set_list-ends (number ∷ []) w e = absurd (cc)
-  set_list-ends (number ∷ quorum ∷ []) w e = absurd (cc)
-  set_list-ends (number ∷ quorum ∷ members ∷ more ∷ rest) w e = absurd (cc)
   set_list-ends (number ∷ quorum ∷ members ∷ []) w e =
       let n = steps (declared_of reading.nodes number) (λ node. number_of quorum >>= (λ least. members_of members >>= (λ numbers. trusted_of numbers least >>= (λ list. Ok (what.List node list))))) w e in
       let q = steps (number_of quorum) (λ least. members_of members >>= (λ numbers. trusted_of numbers least >>= (λ list. Ok (what.List n.value list)))) w n.rest in
       let m = steps (members_of members) (λ numbers. trusted_of numbers q.value >>= (λ list. Ok (what.List n.value list))) w q.rest in
       members-ink members m.value m.gave
+  set_list-ends other w e = absurd (cc)
 
   pub list-ends : (old : List (List ℕ)) (w : What) → list_event reading old ≡ Ok w → EndsInk (token ∷ old)
   list-ends old w e =

@@ -153,10 +153,6 @@ prefer_event-again reading (number ∷ []) w e =
 
 -- a list's line, with the members by rising number
 set_list-again : (reading : Reading) (old : List (List ℕ)) (w : What) → set_list reading old ≡ Ok w → IsEventAgain (set_list reading) (codes "list") old w
-set_list-again reading [] w e = absurd (cc)
-set_list-again reading (number ∷ []) w e = absurd (cc)
-set_list-again reading (number ∷ quorum ∷ []) w e = absurd (cc)
-set_list-again reading (number ∷ quorum ∷ members ∷ more ∷ rest) w e = absurd (cc)
 set_list-again reading (number ∷ quorum ∷ members ∷ []) w e =
     let n = steps (declared_of reading.nodes number) (λ node. number_of quorum >>= (λ least. members_of members >>= (λ numbers. trusted_of numbers least >>= (λ list. Ok (what.List node list))))) w e in
     let q = steps (number_of quorum) (λ least. members_of members >>= (λ numbers. trusted_of numbers least >>= (λ list. Ok (what.List n.value list)))) w n.rest in
@@ -185,6 +181,7 @@ set_list-again reading (number ∷ quorum ∷ members ∷ []) w e =
         omega (arith, node-small.few, least-small.few, listed.small.few),
       );
     }
+set_list-again reading other w e = absurd (cc)
 
 list_event-again : (reading : Reading) (old : List (List ℕ)) (w : What) → list_event reading old ≡ Ok w → IsEventAgain (list_event reading) (codes "list") old w
 list_event-again reading old w e =

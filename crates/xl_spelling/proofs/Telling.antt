@@ -113,10 +113,6 @@ node_mode reading number quorum members mode l e =
     (mode-same mode validating.value validating.gave).1
 
 node_line-again : (reading : Reading) (old : List (List ℕ)) (l : Line) → node_line reading old ≡ Ok l → IsLineAgain (node_line reading) (codes "node") old l
-node_line-again reading [] l e = absurd (cc)
-node_line-again reading (number ∷ []) l e = absurd (cc)
-node_line-again reading (number ∷ quorum ∷ []) l e = absurd (cc)
-node_line-again reading (number ∷ quorum ∷ members ∷ mode ∷ more ∷ rest) l e = absurd (cc)
 node_line-again reading (number ∷ quorum ∷ members ∷ []) l e =
     let again = node_of-again reading number quorum members (mode_of None) [] l (λ validating m. ap mode_words (sym (same-ok true validating m))) e in
     record {
@@ -144,6 +140,7 @@ node_line-again reading (number ∷ quorum ∷ members ∷ mode ∷ []) l e =
         omega (arith, again.first.few, again.second.few, again.third.few, mode-small.few),
       );
     }
+node_line-again reading other l e = absurd (cc)
 
 liar_line-again : (reading : Reading) (old : List (List ℕ)) (l : Line) → liar_line reading old ≡ Ok l → IsLineAgain (liar_line reading) (codes "liar") old l
 liar_line-again reading [] l e = absurd (cc)
@@ -218,10 +215,6 @@ named_line-again reading (name ∷ id ∷ []) l e stored =
     }
 
 named_ledger_line-again : (reading : Reading) (old : List (List ℕ)) (l : Line) → named_ledger_line reading old ≡ Ok l → IsLineAgain (named_ledger_line reading) (codes "ledger") old l
-named_ledger_line-again reading [] l e = absurd (cc)
-named_ledger_line-again reading (name ∷ []) l e = absurd (cc)
-named_ledger_line-again reading (name ∷ parent ∷ []) l e = absurd (cc)
-named_ledger_line-again reading (name ∷ parent ∷ second ∷ more ∷ rest) l e = absurd (cc)
 named_ledger_line-again reading (name ∷ parent ∷ second ∷ []) l e =
     let n = steps (new_name_of reading.names name) (λ fresh. parent_of reading.names parent >>= (λ above. number_of second >>= (λ closed. Ok (line.Ledger fresh parent (header_after above closed))))) l e in
     let p = steps (parent_of reading.names parent) (λ above. number_of second >>= (λ closed. Ok (line.Ledger n.value parent (header_after above closed)))) l n.rest in
@@ -237,6 +230,7 @@ named_ledger_line-again reading (name ∷ parent ∷ second ∷ []) l e =
       count = refl;
       like = inl refl;
     }
+named_ledger_line-again reading other l e = absurd (cc)
 
 name_line-again : (reading : Reading) (old : List (List ℕ)) (l : Line) → name_line reading old ≡ Ok l → IsStored l → IsLineAgain (name_line reading) (codes "name") old l
 name_line-again reading old l e stored =
