@@ -101,12 +101,9 @@ node_of_declares reading number quorum members mode =
     node_declares reading.names (new_member_of reading.nodes reading.liars number) (number_of quorum) (members_of members) mode (new_in_range reading.nodes reading.liars number (member_of number) (member_in_range number))
 
 node_line_declares : (reading : Reading) (arguments : List (List ℕ)) → IfOk (node_line reading arguments) (Declares reading.names)
-node_line_declares reading [] = tt
-node_line_declares reading (a ∷ []) = tt
-node_line_declares reading (a ∷ b ∷ []) = tt
 node_line_declares reading (a ∷ b ∷ c ∷ []) = node_of_declares reading a b c (mode_of None)
 node_line_declares reading (a ∷ b ∷ c ∷ d ∷ []) = node_of_declares reading a b c (mode_of (Some d))
-node_line_declares reading (a ∷ b ∷ c ∷ d ∷ e ∷ rest) = tt
+node_line_declares reading other = tt
 
 liar_declares : (names : List Named) (me : Result ℕ SchedRefusal) → IfOk (me >>= (λ m. Ok (line.Liar m))) (Declares names)
 liar_declares names (Err e) = tt
@@ -155,11 +152,8 @@ ledger_declares names (Ok n) (Ok a) (Err e) parent new = tt
 ledger_declares names (Ok n) (Ok a) (Ok c) parent new = new
 
 ledger_line_declares : (reading : Reading) (arguments : List (List ℕ)) → IfOk (named_ledger_line reading arguments) (Declares reading.names)
-ledger_line_declares reading [] = tt
-ledger_line_declares reading (a ∷ []) = tt
-ledger_line_declares reading (a ∷ b ∷ []) = tt
 ledger_line_declares reading (a ∷ b ∷ c ∷ []) = ledger_declares reading.names (new_name_of reading.names a) (parent_of reading.names b) (number_of c) b (new_name reading.names a)
-ledger_line_declares reading (a ∷ b ∷ c ∷ d ∷ rest) = tt
+ledger_line_declares reading other = tt
 
 limit_declares : (names : List Named) (limited : Bool) (token : List ℕ) (limit : Result ℕ SchedRefusal) → IfOk (limit >>= (λ n. cond limited (Err (Twice token)) (Ok (line.Limit n)))) (Declares names)
 limit_declares names limited token (Err e) = tt

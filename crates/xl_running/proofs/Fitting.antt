@@ -20,13 +20,8 @@ fit_plausible reading sent other fit = tt
 -- a line that fits is in range
 fit_in_range : (reading : Reading) (sent : ℕ) (l : Line) → IsFit reading sent l → IsInRange l
 fit_in_range reading sent (line.Limit limit) fit = (fit.0, fit.1)
-fit_in_range reading sent (line.Node me list validating) fit = tt
-fit_in_range reading sent (line.Liar me) fit = tt
-fit_in_range reading sent (line.Name name id) fit = tt
-fit_in_range reading sent (line.Ledger name parent header) fit = tt
-fit_in_range reading sent (line.At at) fit = tt
-fit_in_range reading sent (line.Speak version) fit = tt
 fit_in_range reading sent (line.Event event) fit = (fit.0, fit_plausible reading sent event.what fit.1)
+fit_in_range reading sent other fit = tt
 
 pub read_in_range : (reading : Reading) (sent : ℕ) (r : Result (Option Line) SchedRefusal) → IfOk r (λ read. IfSome read (IsFit reading sent)) → IfOk r (λ read. IfSome read IsInRange)
 read_in_range reading sent (Ok None) fit = tt

@@ -5,3 +5,4 @@ pub mod Fitting
 pub mod Sounding
 pub mod Alike
 pub mod Aloud
+pub mod Steps

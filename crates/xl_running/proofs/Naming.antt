@@ -63,15 +63,9 @@ AnswerNames (refuses why) = Unit {0}
 
 answer_names : (reading : Reading) (r : Result (Option Line) SchedRefusal) → AreNames reading.names → AnswerDeclares reading.names (answer_to reading r) → AnswerNames (answer_to reading r)
 answer_names reading (Err e) are declared = tt
-answer_names reading (Ok None) are declared = are
-answer_names reading (Ok (Some (line.Limit limit))) are declared = are
-answer_names reading (Ok (Some (line.Node me list validating))) are declared = are
-answer_names reading (Ok (Some (line.Liar me))) are declared = are
 answer_names reading (Ok (Some (line.Name name id))) are declared = named_more reading.names (record { name = name; id = id; header = None }) are declared
 answer_names reading (Ok (Some (line.Ledger name parent header))) are declared = named_more reading.names (record { name = name; id = (header_id header).0; header = Some header }) are declared
-answer_names reading (Ok (Some (line.At at))) are declared = are
-answer_names reading (Ok (Some (line.Speak version))) are declared = are
-answer_names reading (Ok (Some (line.Event e))) are declared = are
+answer_names reading other are declared = are
 
 pub reading_names : (reading : Reading) (sent : ℕ) (bytes : List ℕ) → AreNames reading.names → AnswerNames (reading_of reading sent bytes)
 reading_names reading sent bytes are = answer_names reading (bounded_line reading sent bytes) are (reading_declares reading sent bytes)

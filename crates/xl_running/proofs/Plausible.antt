@@ -62,11 +62,8 @@ list_parts (Ok i) (Ok q) (Err e) valid = tt
 list_parts (Ok i) (Ok q) (Ok ns) valid = list_given i (trusted_of ns q) (valid ns q)
 
 list_set : (reading : Reading) (arguments : List (List ℕ)) → ((members : List ℕ) (quorum : ℕ) → IfOk (trusted_of members quorum) IsValid) → IfOk (set_list reading arguments) IsPlausible
-list_set reading [] valid = tt
-list_set reading (a ∷ []) valid = tt
-list_set reading (a ∷ b ∷ []) valid = tt
 list_set reading (a ∷ b ∷ c ∷ []) valid = list_parts (declared_of reading.nodes a) (number_of b) (members_of c) valid
-list_set reading (a ∷ b ∷ c ∷ d ∷ rest) valid = tt
+list_set reading other valid = tt
 
 -- SETS
 
@@ -98,13 +95,8 @@ proposal_parts (Ok p) (Ok s) (Ok q) (Ok c) (Err e) = tt
 proposal_parts (Ok p) (Ok s) (Ok q) (Ok c) (Ok t) = tt
 
 proposal_fits : (names : List Named) (arguments : List (List ℕ)) → IfOk (said_proposal names arguments) IsFitLied
-proposal_fits names [] = tt
-proposal_fits names (a ∷ []) = tt
-proposal_fits names (a ∷ b ∷ []) = tt
-proposal_fits names (a ∷ b ∷ c ∷ []) = tt
-proposal_fits names (a ∷ b ∷ c ∷ d ∷ []) = tt
 proposal_fits names (a ∷ b ∷ c ∷ d ∷ e ∷ []) = proposal_parts (ledger_id_of names a) (set_id_of names b) (number_of c) (number_of d) (number_of e)
-proposal_fits names (a ∷ b ∷ c ∷ d ∷ e ∷ f ∷ rest) = tt
+proposal_fits names other = tt
 
 validation_parts : (seq : Result ℕ SchedRefusal) (id : Result LedgerId SchedRefusal) (signed : Result ℕ SchedRefusal) (full : Result Bool SchedRefusal) (told : Result (Option LedgerId) SchedRefusal) →
     IfOk (seq >>= (λ s. id >>= (λ i. signed >>= (λ g. full >>= (λ f. told >>= (λ v. Ok (lied.Validation (record { id = i; seq = s; signed = g; full = f; validated = v })))))))) IsFitLied
@@ -116,13 +108,9 @@ validation_parts (Ok s) (Ok i) (Ok g) (Ok f) (Err e) = tt
 validation_parts (Ok s) (Ok i) (Ok g) (Ok f) (Ok v) = tt
 
 validation_fits : (names : List Named) (arguments : List (List ℕ)) → IfOk (said_validation names arguments) IsFitLied
-validation_fits names [] = tt
-validation_fits names (a ∷ []) = tt
-validation_fits names (a ∷ b ∷ []) = tt
-validation_fits names (a ∷ b ∷ c ∷ []) = tt
 validation_fits names (a ∷ b ∷ c ∷ d ∷ []) = validation_parts (number_of a) (ledger_id_of names b) (number_of c) (full_of d) (told_if names None)
 validation_fits names (a ∷ b ∷ c ∷ d ∷ e ∷ []) = validation_parts (number_of a) (ledger_id_of names b) (number_of c) (full_of d) (told_if names (Some e))
-validation_fits names (a ∷ b ∷ c ∷ d ∷ e ∷ f ∷ rest) = tt
+validation_fits names other = tt
 
 header_given : (name : List ℕ) (r : Result Ledger SchedRefusal) → IfOk (r >>= (λ ledger. Ok (lied.Header name ledger.header))) IsFitLied
 header_given name (Ok ledger) = tt

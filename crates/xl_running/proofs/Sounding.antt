@@ -67,10 +67,7 @@ declares_sound r names (line.Liar me) declared sound = record {
   declared = sound.declared;
   is_run = planned r r.shared r.plan (declares r (line.Liar me)).liars sound.declared sound r.world refl;
 }
-declares_sound r names (line.Name name id) declared sound = sound
-declares_sound r names (line.Ledger name parent header) declared sound = sound
-declares_sound r names (line.At at) declared sound = sound
-declares_sound r names (line.Event e) declared sound = sound
+declares_sound r names other declared sound = sound
 
 -- reports stay where a line declares
 pub declares_reports : (r : Running) (l : Line) → (world_of (declares r l)).reports ≡ (world_of r).reports
@@ -78,7 +75,4 @@ declares_reports r (line.Limit limit) = same_reports r (record r.shared { limit 
 declares_reports r (line.Speak version) = same_reports r (record r.shared { speak = version }) r.plan r.liars r.world refl
 declares_reports r (line.Node me list validating) = same_reports r r.shared (declares r (line.Node me list validating)).plan r.liars r.world refl
 declares_reports r (line.Liar me) = same_reports r r.shared r.plan (declares r (line.Liar me)).liars r.world refl
-declares_reports r (line.Name name id) = refl
-declares_reports r (line.Ledger name parent header) = refl
-declares_reports r (line.At at) = refl
-declares_reports r (line.Event e) = refl
+declares_reports r other = refl

@@ -2,3 +2,4 @@ pub mod Defaults
 pub mod Running
 pub mod Seen
 pub mod Texts
+pub mod Stepping

@@ -73,13 +73,8 @@ happens r e = in_world r (after_event (world_of r) e)
 -- there may be
 abbrev pub IsInRange : Line → Type 0
 IsInRange (line.Limit limit) = (least_limit ≤ limit) × (limit ≤ most_ledgers)
-IsInRange (line.Node me list validating) = Unit {0}
-IsInRange (line.Liar me) = Unit {0}
-IsInRange (line.Name name id) = Unit {0}
-IsInRange (line.Ledger name parent header) = Unit {0}
-IsInRange (line.At at) = Unit {0}
-IsInRange (line.Speak version) = Unit {0}
 IsInRange (line.Event event) = (event.at ≤ greatest_millis) × IsPlausible event.what
+IsInRange other = Unit {0}
 
 abbrev pub limits : Limits
 limits = record { lines = most_lines; bytes = most_bytes; returns = Dropped }

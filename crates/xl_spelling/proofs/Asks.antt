@@ -35,11 +35,6 @@ pub ledger_id-read : (names : List Named) (t : List ℕ) (id : LedgerId) → IsI
 ledger_id-read names t id h e = ap (λ read. read >>= (λ i. Ok (record { 0 = i }))) (id-read names id.0 h) ∙ sym e
 
 pub issue-again : (reading : Reading) (old : List (List ℕ)) (a : Ask) → asked_issue reading old ≡ Ok a → IsStoredAsk a → IsAgain ask_words (asked_issue reading) (codes "issue") 100 old a
-issue-again reading [] a e stored = absurd (cc)
-issue-again reading (number ∷ []) a e stored = absurd (cc)
-issue-again reading (number ∷ sequence ∷ []) a e stored = absurd (cc)
-issue-again reading (number ∷ sequence ∷ id ∷ []) a e stored = absurd (cc)
-issue-again reading (number ∷ sequence ∷ id ∷ kind ∷ more ∷ rest) a e stored = absurd (cc)
 issue-again reading (number ∷ sequence ∷ id ∷ kind ∷ []) a e stored =
     let n = steps (declared_of reading.nodes number) (λ node. number_of sequence >>= (λ seq. ledger_id_of reading.names id >>= (λ ledger. full_of kind >>= (λ full. Ok (ask.Issue node seq ledger full))))) a e in
     let s = steps (number_of sequence) (λ seq. ledger_id_of reading.names id >>= (λ ledger. full_of kind >>= (λ full. Ok (ask.Issue n.value seq ledger full)))) a n.rest in
@@ -68,10 +63,9 @@ issue-again reading (number ∷ sequence ∷ id ∷ kind ∷ []) a e stored =
         omega (arith, node-small.few, seq-small.few, digits-small.few, full-small.few),
       );
     }
+issue-again reading other a e stored = absurd (cc)
 
 pub timer-again : (reading : Reading) (old : List (List ℕ)) (a : Ask) → asked_timer reading old ≡ Ok a → IsAgain ask_words (asked_timer reading) (codes "timer") 100 old a
-timer-again reading [] a e = absurd (cc)
-timer-again reading (number ∷ more ∷ rest) a e = absurd (cc)
 timer-again reading (number ∷ []) a e =
     let n = steps (declared_of reading.nodes number) (λ node. Ok (ask.Timer node)) a e in
     let is = same-ok (ask.Timer n.value) a n.rest in
@@ -83,6 +77,7 @@ timer-again reading (number ∷ []) a e =
       count = refl;
       like = inl refl;
     }
+timer-again reading other a e = absurd (cc)
 
 -- what is asked, of either word, said again
 pub record IsAskAgain (reading : Reading) (word : List ℕ) (old : List (List ℕ)) (a : Ask) : Type 0 where
@@ -131,8 +126,6 @@ pub record IsSaveAgain (reading : Reading) (old : List (List ℕ)) (save : Bool 
   pub like : AreLike 120 old arguments
 
 pub save-again : (reading : Reading) (old : List (List ℕ)) (save : Bool × Ask) → disturbed_of reading old ≡ Ok save → IsStoredAsk save.1 → IsSaveAgain reading old save
-save-again reading [] save e stored = absurd (cc)
-save-again reading (held ∷ []) save e stored = absurd (cc)
 save-again reading (held ∷ word ∷ asked) save e stored =
     let counted = passed_by (may_ask word (length asked)) (held_of held (ask_of reading word asked)) save (refusal.Count (decimal (length (held ∷ word ∷ asked) + 1))) e in
     let h = steps (new_of held) (λ new. ask_of reading word asked >>= (λ a. Ok (new, a))) save counted.1 in
@@ -151,3 +144,4 @@ save-again reading (held ∷ word ∷ asked) save e stored =
       count = ap (λ n. suc (suc n)) again.count;
       like = like-widen 110 120 _ _ (omega arith) (like-more 106 3 held _ _ (subst (IsSmall 3) new (held-small h.value)) (like-more 100 5 word asked again.arguments again.small again.like));
     }
+save-again reading other save e stored = absurd (cc)

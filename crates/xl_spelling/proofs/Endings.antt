@@ -36,24 +36,19 @@ module _ (reading : Reading) (are : AreSpelled reading.names) (token : List ℕ)
   -- ---- what is asked
 
   issue-ends : (old : List (List ℕ)) (a : Ask) → asked_issue reading old ≡ Ok a → EndsInk (token ∷ old)
-  issue-ends [] a e = absurd (cc)
-  issue-ends (number ∷ []) a e = absurd (cc)
-  issue-ends (number ∷ sequence ∷ []) a e = absurd (cc)
-  issue-ends (number ∷ sequence ∷ id ∷ []) a e = absurd (cc)
-  issue-ends (number ∷ sequence ∷ id ∷ kind ∷ more ∷ rest) a e = absurd (cc)
   issue-ends (number ∷ sequence ∷ id ∷ kind ∷ []) a e =
       let n = steps (declared_of reading.nodes number) (λ node. number_of sequence >>= (λ seq. ledger_id_of reading.names id >>= (λ ledger. full_of kind >>= (λ full. Ok (ask.Issue node seq ledger full))))) a e in
       let s = steps (number_of sequence) (λ seq. ledger_id_of reading.names id >>= (λ ledger. full_of kind >>= (λ full. Ok (ask.Issue n.value seq ledger full)))) a n.rest in
       let l = steps (ledger_id_of reading.names id) (λ ledger. full_of kind >>= (λ full. Ok (ask.Issue n.value s.value ledger full))) a s.rest in
       let f = steps (full_of kind) (λ full. Ok (ask.Issue n.value s.value l.value full)) a l.rest in
       kind-ink kind f.value f.gave
+  issue-ends other a e = absurd (cc)
 
   timer-ends : (old : List (List ℕ)) (a : Ask) → asked_timer reading old ≡ Ok a → EndsInk (token ∷ old)
-  timer-ends [] a e = absurd (cc)
-  timer-ends (number ∷ more ∷ rest) a e = absurd (cc)
   timer-ends (number ∷ []) a e =
       let n = steps (declared_of reading.nodes number) (λ node. Ok (ask.Timer node)) a e in
       declared-ink reading.nodes number n.value n.gave
+  timer-ends other a e = absurd (cc)
 
   ask-ends : (old : List (List ℕ)) (a : Ask) → ask_of reading token old ≡ Ok a → EndsInk (token ∷ old)
   ask-ends old a e =
@@ -65,12 +60,6 @@ module _ (reading : Reading) (are : AreSpelled reading.names) (token : List ℕ)
   -- ---- lies
 
   proposal-ends : (old : List (List ℕ)) (l : Lied) → said_proposal reading.names old ≡ Ok l → EndsInk (token ∷ old)
-  proposal-ends [] l e = absurd (cc)
-  proposal-ends (a ∷ []) l e = absurd (cc)
-  proposal-ends (a ∷ b ∷ []) l e = absurd (cc)
-  proposal-ends (a ∷ b ∷ c ∷ []) l e = absurd (cc)
-  proposal-ends (a ∷ b ∷ c ∷ d ∷ []) l e = absurd (cc)
-  proposal-ends (a ∷ b ∷ c ∷ d ∷ f ∷ more ∷ rest) l e = absurd (cc)
   proposal-ends (before ∷ position ∷ changes ∷ second ∷ made ∷ []) l e =
       let p = steps (ledger_id_of reading.names before) (λ prev. set_id_of reading.names position >>= (λ set. number_of changes >>= (λ pseq. number_of second >>= (λ close. number_of made >>= (λ time. Ok (lied.Proposal (record { prev = prev; set = set; pseq = pseq; close = close; time = time }))))))) l e in
       let s = steps (set_id_of reading.names position) (λ set. number_of changes >>= (λ pseq. number_of second >>= (λ close. number_of made >>= (λ time. Ok (lied.Proposal (record { prev = p.value; set = set; pseq = pseq; close = close; time = time })))))) l p.rest in
@@ -78,6 +67,7 @@ module _ (reading : Reading) (are : AreSpelled reading.names) (token : List ℕ)
       let c = steps (number_of second) (λ close. number_of made >>= (λ time. Ok (lied.Proposal (record { prev = p.value; set = s.value; pseq = q.value; close = close; time = time })))) l q.rest in
       let m = steps (number_of made) (λ time. Ok (lied.Proposal (record { prev = p.value; set = s.value; pseq = q.value; close = c.value; time = time }))) l c.rest in
       number-inked made m.value m.gave
+  proposal-ends other l e = absurd (cc)
 
   -- the word and the last two tokens of a validation, of which the last may be lacking
   validation_parts-end : (sequence id second kind : List ℕ) (told : Option (List ℕ)) (l : Lied) → validation_of reading.names sequence id second kind (told_if reading.names told) ≡ Ok l → Ink kind × ((t : List ℕ) → told ≡ Some t → Ink t)
@@ -96,34 +86,27 @@ module _ (reading : Reading) (are : AreSpelled reading.names) (token : List ℕ)
           subst Ink (cc is) (ledger_id-ink reading.names are token i.value i.gave)
 
   validation-ends : (old : List (List ℕ)) (l : Lied) → said_validation reading.names old ≡ Ok l → EndsInk (token ∷ old)
-  validation-ends [] l e = absurd (cc)
-  validation-ends (a ∷ []) l e = absurd (cc)
-  validation-ends (a ∷ b ∷ []) l e = absurd (cc)
-  validation-ends (a ∷ b ∷ c ∷ []) l e = absurd (cc)
-  validation-ends (a ∷ b ∷ c ∷ d ∷ f ∷ more ∷ rest) l e = absurd (cc)
   validation-ends (sequence ∷ id ∷ second ∷ kind ∷ []) l e = (validation_parts-end sequence id second kind None l e).0
   validation-ends (sequence ∷ id ∷ second ∷ kind ∷ told ∷ []) l e = (validation_parts-end sequence id second kind (Some told) l e).1 told refl
+  validation-ends other l e = absurd (cc)
 
   header-ends : (old : List (List ℕ)) (l : Lied) → said_header reading.names old ≡ Ok l → EndsInk (token ∷ old)
-  header-ends [] l e = absurd (cc)
-  header-ends (name ∷ more ∷ rest) l e = absurd (cc)
   header-ends (name ∷ []) l e =
       let h = steps (ledger_of reading.names name) (λ ledger. Ok (lied.Header name ledger.header)) l e in
       ledger-ink reading.names are name h.value h.gave
+  header-ends other l e = absurd (cc)
 
   tx_set-ends : (old : List (List ℕ)) (l : Lied) → said_tx_set reading.names old ≡ Ok l → EndsInk (token ∷ old)
-  tx_set-ends [] l e = absurd (cc)
-  tx_set-ends (ids ∷ more ∷ rest) l e = absurd (cc)
   tx_set-ends (ids ∷ []) l e =
       let i = steps (tx_set_of reading.names ids) (λ ids. Ok (lied.TxSet ids)) l e in
       tx_set-ink reading.names are ids i.value i.gave
+  tx_set-ends other l e = absurd (cc)
 
   tx-ends : (old : List (List ℕ)) (l : Lied) → said_tx reading.names old ≡ Ok l → EndsInk (token ∷ old)
-  tx-ends [] l e = absurd (cc)
-  tx-ends (id ∷ more ∷ rest) l e = absurd (cc)
   tx-ends (id ∷ []) l e =
       let i = steps (tx_id_of reading.names id) (λ id. Ok (lied.Tx id)) l e in
       tx_id-ink reading.names are id i.value i.gave
+  tx-ends other l e = absurd (cc)
 
   lied-ends : (w : Option LieWord) (old : List (List ℕ)) (l : Lied) → lied_of reading.names w token old ≡ Ok l → EndsInk (token ∷ old)
   lied-ends None old l e = absurd (cc)
@@ -147,29 +130,24 @@ module _ (reading : Reading) (are : AreSpelled reading.names) (sent : ℕ) (toke
       timer-ends reading are token old a.value a.gave
 
   pub submit-ends : (old : List (List ℕ)) (w : What) → submit_event reading old ≡ Ok w → EndsInk (token ∷ old)
-  submit-ends [] w e = absurd (cc)
-  submit-ends (number ∷ []) w e = absurd (cc)
-  submit-ends (number ∷ id ∷ more ∷ rest) w e = absurd (cc)
   submit-ends (number ∷ id ∷ []) w e =
       let n = steps (declared_of reading.nodes number) (λ node. tx_id_of reading.names id >>= (λ tx. Ok (what.Submit node tx))) w e in
       let i = steps (tx_id_of reading.names id) (λ tx. Ok (what.Submit n.value tx)) w n.rest in
       tx_id-ink reading.names are id i.value i.gave
+  submit-ends other w e = absurd (cc)
 
   pub deliver-ends : (old : List (List ℕ)) (w : What) → deliver_event sent old ≡ Ok w → EndsInk (token ∷ old)
-  deliver-ends [] w e = absurd (cc)
-  deliver-ends (number ∷ more ∷ rest) w e = absurd (cc)
   deliver-ends (number ∷ []) w e =
       let p = steps (place_of sent number) (λ place. Ok (what.Deliver place)) w e in
       place-ink sent number p.value p.gave
+  deliver-ends other w e = absurd (cc)
 
   pub greet-ends : (old : List (List ℕ)) (w : What) → greet_event reading old ≡ Ok w → EndsInk (token ∷ old)
-  greet-ends [] w e = absurd (cc)
-  greet-ends (number ∷ []) w e = absurd (cc)
-  greet-ends (number ∷ other ∷ more ∷ rest) w e = absurd (cc)
   greet-ends (number ∷ other ∷ []) w e =
       let n = steps (declared_of reading.nodes number) (λ node. peer_of reading node other >>= (λ peer. Ok (what.Greet node peer))) w e in
       let p = steps (peer_of reading n.value other) (λ peer. Ok (what.Greet n.value peer)) w n.rest in
       peer-ink reading n.value other p.value p.gave
+  greet-ends other w e = absurd (cc)
 
   -- a line of one number, which is a declared node's
   of_node-ends : (f : ℕ → What) (number : List ℕ) (w : What) → (declared_of reading.nodes number >>= (λ node. Ok (f node))) ≡ Ok w → Ink number
@@ -178,39 +156,31 @@ module _ (reading : Reading) (are : AreSpelled reading.names) (sent : ℕ) (toke
       declared-ink reading.nodes number n.value n.gave
 
   pub restart-ends : (old : List (List ℕ)) (w : What) → restart_event reading old ≡ Ok w → EndsInk (token ∷ old)
-  restart-ends [] w e = absurd (cc)
-  restart-ends (number ∷ more ∷ rest) w e = absurd (cc)
   restart-ends (number ∷ []) w e = of_node-ends (λ node. what.Restart node) number w e
+  restart-ends other w e = absurd (cc)
 
   pub prefer-ends : (old : List (List ℕ)) (w : What) → prefer_event reading old ≡ Ok w → EndsInk (token ∷ old)
-  prefer-ends [] w e = absurd (cc)
-  prefer-ends (number ∷ more ∷ rest) w e = absurd (cc)
   prefer-ends (number ∷ []) w e = of_node-ends (λ node. what.Prefer node) number w e
+  prefer-ends other w e = absurd (cc)
 
   pub heard-ends : (old : List (List ℕ)) (w : What) → heard_event reading old ≡ Ok w → EndsInk (token ∷ old)
-  heard-ends [] w e = absurd (cc)
-  heard-ends (number ∷ more ∷ rest) w e = absurd (cc)
   heard-ends (number ∷ []) w e = of_node-ends (λ node. what.Heard node) number w e
+  heard-ends other w e = absurd (cc)
 
   pub raw-ends : (old : List (List ℕ)) (w : What) → raw_event reading old ≡ Ok w → EndsInk (token ∷ old)
-  raw-ends [] w e = absurd (cc)
-  raw-ends (honest ∷ []) w e = absurd (cc)
-  raw-ends (honest ∷ digits ∷ more ∷ rest) w e = absurd (cc)
   raw-ends (honest ∷ digits ∷ []) w e =
       let n = steps (declared_of reading.nodes honest) (λ to. raw_bytes_of digits >>= (λ bytes. Ok (what.Raw to bytes))) w e in
       let r = steps (raw_bytes_of digits) (λ bytes. Ok (what.Raw n.value bytes)) w n.rest in
       raw-ink digits r.value r.gave
+  raw-ends other w e = absurd (cc)
 
   set_list-ends : (old : List (List ℕ)) (w : What) → set_list reading old ≡ Ok w → EndsInk (token ∷ old)
-  set_list-ends [] w e = absurd (cc)
-  set_list-ends (number ∷ []) w e = absurd (cc)
-  set_list-ends (number ∷ quorum ∷ []) w e = absurd (cc)
-  set_list-ends (number ∷ quorum ∷ members ∷ more ∷ rest) w e = absurd (cc)
   set_list-ends (number ∷ quorum ∷ members ∷ []) w e =
       let n = steps (declared_of reading.nodes number) (λ node. number_of quorum >>= (λ least. members_of members >>= (λ numbers. trusted_of numbers least >>= (λ list. Ok (what.List node list))))) w e in
       let q = steps (number_of quorum) (λ least. members_of members >>= (λ numbers. trusted_of numbers least >>= (λ list. Ok (what.List n.value list)))) w n.rest in
       let m = steps (members_of members) (λ numbers. trusted_of numbers q.value >>= (λ list. Ok (what.List n.value list))) w q.rest in
       members-ink members m.value m.gave
+  set_list-ends other w e = absurd (cc)
 
   pub list-ends : (old : List (List ℕ)) (w : What) → list_event reading old ≡ Ok w → EndsInk (token ∷ old)
   list-ends old w e =
@@ -218,20 +188,17 @@ module _ (reading : Reading) (are : AreSpelled reading.names) (sent : ℕ) (toke
 
   -- a save that is cut off, or fails
   pub save-ends : (old : List (List ℕ)) (save : Bool × Ask) → disturbed_of reading old ≡ Ok save → EndsInk (token ∷ old)
-  save-ends [] save e = absurd (cc)
-  save-ends (held ∷ []) save e = absurd (cc)
   save-ends (held ∷ asking ∷ asked) save e =
       let counted = passed_by (may_ask asking (length asked)) (held_of held (ask_of reading asking asked)) save (refusal.Count (decimal (length (held ∷ asking ∷ asked) + 1))) e in
       let h = steps (new_of held) (λ new. ask_of reading asking asked >>= (λ a. Ok (new, a))) save counted.1 in
       let a = steps (ask_of reading asking asked) (λ a. Ok (h.value, a)) save h.rest in
       ask-ends reading are asking asked a.value a.gave
+  save-ends other save e = absurd (cc)
 
   pub lie-ends : (old : List (List ℕ)) (w : What) → lie_event reading old ≡ Ok w → EndsInk (token ∷ old)
-  lie-ends [] w e = absurd (cc)
-  lie-ends (liar ∷ []) w e = absurd (cc)
-  lie-ends (liar ∷ honest ∷ []) w e = absurd (cc)
   lie-ends (liar ∷ honest ∷ telling ∷ said) w e =
       let counted = passed_by (may_say (lie_word telling) (length said)) (lie_of (pair_of reading liar honest) (lied_of reading.names (lie_word telling) telling said)) w (refusal.Count (decimal (length (liar ∷ honest ∷ telling ∷ said) + 1))) e in
       let p = steps (pair_of reading liar honest) (λ members. lied_of reading.names (lie_word telling) telling said >>= (λ lie. Ok (what.Lie members.0 members.1 lie))) w counted.1 in
       let l = steps (lied_of reading.names (lie_word telling) telling said) (λ lie. Ok (what.Lie p.value.0 p.value.1 lie)) w p.rest in
       lied-ends reading are telling (lie_word telling) said l.value l.gave
+  lie-ends other w e = absurd (cc)

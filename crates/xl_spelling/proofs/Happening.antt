@@ -26,7 +26,7 @@ use Rattle.xl_spelling.specs.Spellings.{with_commas, lied_words, what_words}
 use Rattle.xl_base.specs.Ids.{IsId}
 use Rattle.xl_spelling.specs.Stored.{IsStoredAsk, IsStoredLied, IsStoredWhat}
 use Rattle.xl_spelling.proofs.Parts.{steps, same-ok, passed, passed_by, number-same, member-same, declared-same, place-same}
-use Rattle.xl_spelling.proofs.Small.{small-inked, number-small, declared-small, id-small, bytes-small, like-more, like-widen}
+use Rattle.xl_spelling.proofs.Small.{AreLike, small-inked, number-small, declared-small, id-small, bytes-small, like-more, like-widen}
 use Rattle.xl_spelling.proofs.Asks.{IsAgain, issue-again, timer-again, save-again}
 use Rattle.xl_spelling.proofs.Members.{texts, list-again, trusted-made, trusted-again}
 use Rattle.xl_spelling.proofs.Saying.{tx_id-read, lied-again}
@@ -36,43 +36,55 @@ use Rattle.xl_spelling.proofs.WordLemmas.{event_text}
 abbrev pub IsEventAgain : (List (List ℕ) → Result What SchedRefusal) → List ℕ → List (List ℕ) → What → Type 0
 IsEventAgain read word old w = IsAgain what_words read word 16900 old w
 
+-- an event that is made of one part, which is said again
+part_event-again : {A : Type 0} (part : List (List ℕ) → Result A SchedRefusal) (word : List ℕ) (make : A → What) (old again : List (List ℕ)) (w : What) (a : A) →
+    make a ≡ w → what_words (make a) ≡ word ∷ again → part again ≡ Ok a → length again ≡ length old → AreLike 16900 old again → IsEventAgain (λ tokens. part tokens >>= (λ a. Ok (make a))) word old w
+part_event-again part word make old again w a is words same count like = record {
+  arguments = again;
+  words = ap what_words (sym is) ∙ words;
+  same = ap (λ read. read >>= (λ a. Ok (make a))) same ∙ ap (λ w. Ok w) is;
+  count = count;
+  like = like;
+}
+
+-- an event of no token
+bare_event-again : (read : List (List ℕ) → Result What SchedRefusal) (word : List ℕ) (made w : What) → what_words made ≡ word ∷ [] → read [] ≡ Ok made → read [] ≡ Ok w → IsEventAgain read word [] w
+bare_event-again read word made w words gives e =
+    let is = same-ok made w (sym gives ∙ e) in
+    record { arguments = []; words = ap what_words (sym is) ∙ words; same = e; count = refl; like = inl refl }
+
+-- an event of a declared node alone
+node_event-again : (reading : Reading) (read : List (List ℕ) → Result What SchedRefusal) (word : List ℕ) (made : ℕ → What) (number : List ℕ) (w : What) →
+    ((node : ℕ) → what_words (made node) ≡ word ∷ decimal node ∷ []) → read (number ∷ []) ≡ (declared_of reading.nodes number >>= (λ node. Ok (made node))) → read (number ∷ []) ≡ Ok w →
+    IsEventAgain read word (number ∷ []) w
+node_event-again reading read word made number w words gives e =
+    let n = steps (declared_of reading.nodes number) (λ node. Ok (made node)) w (sym gives ∙ e) in
+    let is = same-ok (made n.value) w n.rest in
+    let node = declared-same reading.nodes number n.value n.gave in
+    record { arguments = number ∷ []; words = ap what_words (sym is) ∙ words n.value ∙ ap (λ (t : List ℕ). word ∷ t ∷ []) node; same = e; count = refl; like = inl refl }
+
 issue_event-again : (reading : Reading) (old : List (List ℕ)) (w : What) → issue_event reading old ≡ Ok w → IsStoredWhat w → IsEventAgain (issue_event reading) (codes "issue") old w
 issue_event-again reading old w e stored =
     let a = steps (asked_issue reading old) (λ a. Ok (what.Ask a)) w e in
     let is = same-ok (what.Ask a.value) w a.rest in
     let fits : IsStoredAsk a.value = subst IsStoredWhat (sym is) stored in
     let again = issue-again reading old a.value a.gave fits in
-    record {
-      arguments = again.arguments;
-      words = ap what_words (sym is) ∙ again.words;
-      same = ap (λ read. read >>= (λ a. Ok (what.Ask a))) again.same ∙ ap (λ w. Ok w) is;
-      count = again.count;
-      like = like-widen 100 16900 old again.arguments (omega arith) again.like;
-    }
+    part_event-again (asked_issue reading) (codes "issue") (λ a. what.Ask a) old again.arguments w a.value is again.words again.same again.count
+    (like-widen 100 16900 old again.arguments (omega arith) again.like)
 
 timer_event-again : (reading : Reading) (old : List (List ℕ)) (w : What) → timer_event reading old ≡ Ok w → IsEventAgain (timer_event reading) (codes "timer") old w
 timer_event-again reading old w e =
     let a = steps (asked_timer reading old) (λ a. Ok (what.Ask a)) w e in
     let is = same-ok (what.Ask a.value) w a.rest in
     let again = timer-again reading old a.value a.gave in
-    record {
-      arguments = again.arguments;
-      words = ap what_words (sym is) ∙ again.words;
-      same = ap (λ read. read >>= (λ a. Ok (what.Ask a))) again.same ∙ ap (λ w. Ok w) is;
-      count = again.count;
-      like = like-widen 100 16900 old again.arguments (omega arith) again.like;
-    }
+    part_event-again (asked_timer reading) (codes "timer") (λ a. what.Ask a) old again.arguments w a.value is again.words again.same again.count
+    (like-widen 100 16900 old again.arguments (omega arith) again.like)
 
 timers_event-again : (old : List (List ℕ)) (w : What) → timers_event old ≡ Ok w → IsEventAgain timers_event (codes "timers") old w
 timers_event-again (more ∷ rest) w e = absurd (cc)
-timers_event-again [] w e =
-    let is = same-ok what.Timers w e in
-    record { arguments = []; words = ap what_words (sym is); same = e; count = refl; like = inl refl }
+timers_event-again [] w e = bare_event-again timers_event (codes "timers") what.Timers w refl refl e
 
 submit_event-again : (reading : Reading) (old : List (List ℕ)) (w : What) → submit_event reading old ≡ Ok w → IsStoredWhat w → IsEventAgain (submit_event reading) (codes "submit") old w
-submit_event-again reading [] w e stored = absurd (cc)
-submit_event-again reading (number ∷ []) w e stored = absurd (cc)
-submit_event-again reading (number ∷ id ∷ more ∷ rest) w e stored = absurd (cc)
 submit_event-again reading (number ∷ id ∷ []) w e stored =
     let n = steps (declared_of reading.nodes number) (λ node. tx_id_of reading.names id >>= (λ tx. Ok (what.Submit node tx))) w e in
     let i = steps (tx_id_of reading.names id) (λ tx. Ok (what.Submit n.value tx)) w n.rest in
@@ -92,28 +104,24 @@ submit_event-again reading (number ∷ id ∷ []) w e stored =
       count = refl;
       like = inr ((small-inked 10 number node-small, (small-inked 64 digits digits-small, tt)), omega (arith, node-small.few, digits-small.few));
     }
+submit_event-again reading other w e stored = absurd (cc)
 
 deliver_event-again : (sent : ℕ) (old : List (List ℕ)) (w : What) → deliver_event sent old ≡ Ok w → IsStoredWhat w → IsEventAgain (deliver_event sent) (codes "deliver") old w
-deliver_event-again sent [] w e stored = absurd (cc)
-deliver_event-again sent (number ∷ more ∷ rest) w e stored = absurd (cc)
 deliver_event-again sent (number ∷ []) w e stored =
     let p = steps (place_of sent number) (λ place. Ok (what.Deliver place)) w e in
     let is = same-ok (what.Deliver p.value) w p.rest in
     let fits : p.value < 2 ^ 64 = subst IsStoredWhat (sym is) stored in
     let place = place-same sent number p.value fits p.gave in
     record { arguments = number ∷ []; words = ap what_words (sym is) ∙ cc place; same = e; count = refl; like = inl refl }
+deliver_event-again sent other w e stored = absurd (cc)
 
 all_event-again : (old : List (List ℕ)) (w : What) → all_event old ≡ Ok w → IsEventAgain all_event (codes "all") old w
 all_event-again (more ∷ rest) w e = absurd (cc)
-all_event-again [] w e =
-    let is = same-ok what.All w e in
-    record { arguments = []; words = ap what_words (sym is); same = e; count = refl; like = inl refl }
+all_event-again [] w e = bare_event-again all_event (codes "all") what.All w refl refl e
 
 drop_event-again : (old : List (List ℕ)) (w : What) → drop_event old ≡ Ok w → IsEventAgain drop_event (codes "drop") old w
 drop_event-again (more ∷ rest) w e = absurd (cc)
-drop_event-again [] w e =
-    let is = same-ok what.Drop w e in
-    record { arguments = []; words = ap what_words (sym is); same = e; count = refl; like = inl refl }
+drop_event-again [] w e = bare_event-again drop_event (codes "drop") what.Drop w refl refl e
 
 peer-same : (reading : Reading) (node : ℕ) (t : List ℕ) (n : ℕ) → peer_of reading node t ≡ Ok n → decimal n ≡ t
 peer-same reading node t n e =
@@ -122,9 +130,6 @@ peer-same reading node t n e =
     ap (λ k. decimal k) (sym p.1) ∙ member-same t m.value m.gave
 
 greet_event-again : (reading : Reading) (old : List (List ℕ)) (w : What) → greet_event reading old ≡ Ok w → IsEventAgain (greet_event reading) (codes "greet") old w
-greet_event-again reading [] w e = absurd (cc)
-greet_event-again reading (number ∷ []) w e = absurd (cc)
-greet_event-again reading (number ∷ other ∷ more ∷ rest) w e = absurd (cc)
 greet_event-again reading (number ∷ other ∷ []) w e =
     let n = steps (declared_of reading.nodes number) (λ node. peer_of reading node other >>= (λ peer. Ok (what.Greet node peer))) w e in
     let p = steps (peer_of reading n.value other) (λ peer. Ok (what.Greet n.value peer)) w n.rest in
@@ -132,31 +137,18 @@ greet_event-again reading (number ∷ other ∷ []) w e =
     let node = declared-same reading.nodes number n.value n.gave in
     let peer = peer-same reading n.value other p.value p.gave in
     record { arguments = number ∷ other ∷ []; words = ap what_words (sym is) ∙ cc (node, peer); same = e; count = refl; like = inl refl }
+greet_event-again reading other w e = absurd (cc)
 
 restart_event-again : (reading : Reading) (old : List (List ℕ)) (w : What) → restart_event reading old ≡ Ok w → IsEventAgain (restart_event reading) (codes "restart") old w
-restart_event-again reading [] w e = absurd (cc)
-restart_event-again reading (number ∷ more ∷ rest) w e = absurd (cc)
-restart_event-again reading (number ∷ []) w e =
-    let n = steps (declared_of reading.nodes number) (λ node. Ok (what.Restart node)) w e in
-    let is = same-ok (what.Restart n.value) w n.rest in
-    let node = declared-same reading.nodes number n.value n.gave in
-    record { arguments = number ∷ []; words = ap what_words (sym is) ∙ cc node; same = e; count = refl; like = inl refl }
+restart_event-again reading (number ∷ []) w e = node_event-again reading (restart_event reading) (codes "restart") (λ node. what.Restart node) number w (λ node. refl) refl e
+restart_event-again reading other w e = absurd (cc)
 
 prefer_event-again : (reading : Reading) (old : List (List ℕ)) (w : What) → prefer_event reading old ≡ Ok w → IsEventAgain (prefer_event reading) (codes "prefer") old w
-prefer_event-again reading [] w e = absurd (cc)
-prefer_event-again reading (number ∷ more ∷ rest) w e = absurd (cc)
-prefer_event-again reading (number ∷ []) w e =
-    let n = steps (declared_of reading.nodes number) (λ node. Ok (what.Prefer node)) w e in
-    let is = same-ok (what.Prefer n.value) w n.rest in
-    let node = declared-same reading.nodes number n.value n.gave in
-    record { arguments = number ∷ []; words = ap what_words (sym is) ∙ cc node; same = e; count = refl; like = inl refl }
+prefer_event-again reading (number ∷ []) w e = node_event-again reading (prefer_event reading) (codes "prefer") (λ node. what.Prefer node) number w (λ node. refl) refl e
+prefer_event-again reading other w e = absurd (cc)
 
 -- a list's line, with the members by rising number
 set_list-again : (reading : Reading) (old : List (List ℕ)) (w : What) → set_list reading old ≡ Ok w → IsEventAgain (set_list reading) (codes "list") old w
-set_list-again reading [] w e = absurd (cc)
-set_list-again reading (number ∷ []) w e = absurd (cc)
-set_list-again reading (number ∷ quorum ∷ []) w e = absurd (cc)
-set_list-again reading (number ∷ quorum ∷ members ∷ more ∷ rest) w e = absurd (cc)
 set_list-again reading (number ∷ quorum ∷ members ∷ []) w e =
     let n = steps (declared_of reading.nodes number) (λ node. number_of quorum >>= (λ least. members_of members >>= (λ numbers. trusted_of numbers least >>= (λ list. Ok (what.List node list))))) w e in
     let q = steps (number_of quorum) (λ least. members_of members >>= (λ numbers. trusted_of numbers least >>= (λ list. Ok (what.List n.value list)))) w n.rest in
@@ -185,6 +177,7 @@ set_list-again reading (number ∷ quorum ∷ members ∷ []) w e =
         omega (arith, node-small.few, least-small.few, listed.small.few),
       );
     }
+set_list-again reading other w e = absurd (cc)
 
 list_event-again : (reading : Reading) (old : List (List ℕ)) (w : What) → list_event reading old ≡ Ok w → IsEventAgain (list_event reading) (codes "list") old w
 list_event-again reading old w e =
@@ -199,13 +192,8 @@ list_event-again reading old w e =
     }
 
 heard_event-again : (reading : Reading) (old : List (List ℕ)) (w : What) → heard_event reading old ≡ Ok w → IsEventAgain (heard_event reading) (codes "heard") old w
-heard_event-again reading [] w e = absurd (cc)
-heard_event-again reading (number ∷ more ∷ rest) w e = absurd (cc)
-heard_event-again reading (number ∷ []) w e =
-    let n = steps (declared_of reading.nodes number) (λ node. Ok (what.Heard node)) w e in
-    let is = same-ok (what.Heard n.value) w n.rest in
-    let node = declared-same reading.nodes number n.value n.gave in
-    record { arguments = number ∷ []; words = ap what_words (sym is) ∙ cc node; same = e; count = refl; like = inl refl }
+heard_event-again reading (number ∷ []) w e = node_event-again reading (heard_event reading) (codes "heard") (λ node. what.Heard node) number w (λ node. refl) refl e
+heard_event-again reading other w e = absurd (cc)
 
 cut_event-again : (reading : Reading) (old : List (List ℕ)) (w : What) → cut_event reading old ≡ Ok w → IsStoredWhat w → IsEventAgain (cut_event reading) (codes "cut") old w
 cut_event-again reading old w e stored =
@@ -213,13 +201,8 @@ cut_event-again reading old w e stored =
     let is = same-ok (what.Cut s.value.0 s.value.1) w s.rest in
     let fits : IsStoredAsk s.value.1 = subst IsStoredWhat (sym is) stored in
     let again = save-again reading old s.value s.gave fits in
-    record {
-      arguments = again.arguments;
-      words = ap what_words (sym is) ∙ ap (λ ts. codes "cut" ∷ ts) again.words;
-      same = ap (λ read. read >>= (λ save. Ok (what.Cut save.0 save.1))) again.same ∙ ap (λ w. Ok w) is;
-      count = again.count;
-      like = like-widen 120 16900 old again.arguments (omega arith) again.like;
-    }
+    part_event-again (disturbed_of reading) (codes "cut") (λ save. what.Cut save.0 save.1) old again.arguments w s.value is
+    (ap (λ ts. codes "cut" ∷ ts) again.words) again.same again.count (like-widen 120 16900 old again.arguments (omega arith) again.like)
 
 fail_event-again : (reading : Reading) (old : List (List ℕ)) (w : What) → fail_event reading old ≡ Ok w → IsStoredWhat w → IsEventAgain (fail_event reading) (codes "fail") old w
 fail_event-again reading old w e stored =
@@ -227,18 +210,10 @@ fail_event-again reading old w e stored =
     let is = same-ok (what.Fail s.value.0 s.value.1) w s.rest in
     let fits : IsStoredAsk s.value.1 = subst IsStoredWhat (sym is) stored in
     let again = save-again reading old s.value s.gave fits in
-    record {
-      arguments = again.arguments;
-      words = ap what_words (sym is) ∙ ap (λ ts. codes "fail" ∷ ts) again.words;
-      same = ap (λ read. read >>= (λ save. Ok (what.Fail save.0 save.1))) again.same ∙ ap (λ w. Ok w) is;
-      count = again.count;
-      like = like-widen 120 16900 old again.arguments (omega arith) again.like;
-    }
+    part_event-again (disturbed_of reading) (codes "fail") (λ save. what.Fail save.0 save.1) old again.arguments w s.value is
+    (ap (λ ts. codes "fail" ∷ ts) again.words) again.same again.count (like-widen 120 16900 old again.arguments (omega arith) again.like)
 
 raw_event-again : (reading : Reading) (old : List (List ℕ)) (w : What) → raw_event reading old ≡ Ok w → IsStoredWhat w → IsEventAgain (raw_event reading) (codes "raw") old w
-raw_event-again reading [] w e stored = absurd (cc)
-raw_event-again reading (honest ∷ []) w e stored = absurd (cc)
-raw_event-again reading (honest ∷ digits ∷ more ∷ rest) w e stored = absurd (cc)
 raw_event-again reading (honest ∷ digits ∷ []) w e stored =
     let n = steps (declared_of reading.nodes honest) (λ to. raw_bytes_of digits >>= (λ bytes. Ok (what.Raw to bytes))) w e in
     let r = steps (raw_bytes_of digits) (λ bytes. Ok (what.Raw n.value bytes)) w n.rest in
@@ -264,11 +239,9 @@ raw_event-again reading (honest ∷ digits ∷ []) w e stored =
       count = refl;
       like = inr ((small-inked 10 honest node-small, (small-inked 16480 text text-small, tt)), omega (arith, node-small.few, text-small.few));
     }
+raw_event-again reading other w e stored = absurd (cc)
 
 lie_event-again : (reading : Reading) (old : List (List ℕ)) (w : What) → lie_event reading old ≡ Ok w → IsStoredWhat w → IsEventAgain (lie_event reading) (codes "lie") old w
-lie_event-again reading [] w e stored = absurd (cc)
-lie_event-again reading (liar ∷ []) w e stored = absurd (cc)
-lie_event-again reading (liar ∷ honest ∷ []) w e stored = absurd (cc)
 lie_event-again reading (liar ∷ honest ∷ token ∷ said) w e stored =
     let counted = passed_by (may_say (lie_word token) (length said)) (lie_of (pair_of reading liar honest) (lied_of reading.names (lie_word token) token said)) w (refusal.Count (decimal (length (liar ∷ honest ∷ token ∷ said) + 1))) e in
     let p = steps (pair_of reading liar honest) (λ members. lied_of reading.names (lie_word token) token said >>= (λ lie. Ok (what.Lie members.0 members.1 lie))) w counted.1 in
@@ -300,6 +273,7 @@ lie_event-again reading (liar ∷ honest ∷ token ∷ said) w e stored =
           (like-more 16661 10 honest (token ∷ said) (token ∷ again.arguments) to-small
           (like-more 16650 10 token said again.arguments again.small again.like)));
     }
+lie_event-again reading other w e stored = absurd (cc)
 
 -- an event of whichever word
 pub what-again : (reading : Reading) (sent : ℕ) (word : EventWord) (old : List (List ℕ)) (w : What) → what_of reading sent word old ≡ Ok w → IsStoredWhat w → IsEventAgain (what_of reading sent word) (event_text word) old w

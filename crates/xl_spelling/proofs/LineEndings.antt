@@ -70,24 +70,18 @@ module _ (reading : Reading) (are : AreSpelled reading.names) (sent : ℕ) (toke
   -- ---- lines at which nothing happens
 
   limit-ends : (old : List (List ℕ)) (l : Line) → limit_line reading old ≡ Ok l → EndsInk (token ∷ old)
-  limit-ends [] l e = absurd (cc)
-  limit-ends (number ∷ more ∷ rest) l e = absurd (cc)
   limit-ends (number ∷ []) l e =
       let n = steps (number_within least_limit most_ledgers number) (λ limit. cond reading.limited (Err (refusal.Twice number)) (Ok (line.Limit limit))) l e in
       within-ink least_limit most_ledgers number n.value n.gave
+  limit-ends other l e = absurd (cc)
 
   speak-ends : (old : List (List ℕ)) (l : Line) → speak_line reading old ≡ Ok l → EndsInk (token ∷ old)
-  speak-ends [] l e = absurd (cc)
-  speak-ends (number ∷ more ∷ rest) l e = absurd (cc)
   speak-ends (number ∷ []) l e =
       let n = steps (number_within 1 2 number) (λ version. cond reading.spoken (Err (refusal.Twice number)) (Ok (line.Speak version))) l e in
       within-ink 1 2 number n.value n.gave
+  speak-ends other l e = absurd (cc)
 
   node-ends : (old : List (List ℕ)) (l : Line) → node_line reading old ≡ Ok l → EndsInk (token ∷ old)
-  node-ends [] l e = absurd (cc)
-  node-ends (a ∷ []) l e = absurd (cc)
-  node-ends (a ∷ b ∷ []) l e = absurd (cc)
-  node-ends (a ∷ b ∷ c ∷ d ∷ more ∷ rest) l e = absurd (cc)
   node-ends (number ∷ quorum ∷ members ∷ []) l e =
       let me = steps (new_member_of reading.nodes reading.liars number) (λ me. number_of quorum >>= (λ least. members_of members >>= (λ numbers. mode_of None >>= (λ validating. trusted_of numbers least >>= (λ list. Ok (line.Node me list validating)))))) l e in
       let least = steps (number_of quorum) (λ least. members_of members >>= (λ numbers. mode_of None >>= (λ validating. trusted_of numbers least >>= (λ list. Ok (line.Node me.value list validating))))) l me.rest in
@@ -99,40 +93,34 @@ module _ (reading : Reading) (are : AreSpelled reading.names) (sent : ℕ) (toke
       let numbers = steps (members_of members) (λ numbers. mode_of (Some mode) >>= (λ validating. trusted_of numbers least.value >>= (λ list. Ok (line.Node me.value list validating)))) l least.rest in
       let validating = steps (mode_of (Some mode)) (λ validating. trusted_of numbers.value least.value >>= (λ list. Ok (line.Node me.value list validating))) l numbers.rest in
       mode-ink mode validating.value validating.gave
+  node-ends other l e = absurd (cc)
 
   liar-ends : (old : List (List ℕ)) (l : Line) → liar_line reading old ≡ Ok l → EndsInk (token ∷ old)
-  liar-ends [] l e = absurd (cc)
-  liar-ends (number ∷ more ∷ rest) l e = absurd (cc)
   liar-ends (number ∷ []) l e =
       let n = steps (new_member_of reading.nodes reading.liars number) (λ liar. Ok (line.Liar liar)) l e in
       new_member-ink reading.nodes reading.liars number n.value n.gave
+  liar-ends other l e = absurd (cc)
 
   at-ends : (old : List (List ℕ)) (l : Line) → at_line old ≡ Ok l → EndsInk (token ∷ old)
-  at-ends [] l e = absurd (cc)
-  at-ends (moment ∷ more ∷ rest) l e = absurd (cc)
   at-ends (moment ∷ []) l e =
       let n = steps (number_within 0 greatest_millis moment) (λ at. Ok (line.At at)) l e in
       within-ink 0 greatest_millis moment n.value n.gave
+  at-ends other l e = absurd (cc)
 
   named-ends : (old : List (List ℕ)) (l : Line) → named_line reading old ≡ Ok l → EndsInk (token ∷ old)
-  named-ends [] l e = absurd (cc)
-  named-ends (name ∷ []) l e = absurd (cc)
-  named-ends (name ∷ id ∷ more ∷ rest) l e = absurd (cc)
   named-ends (name ∷ id ∷ []) l e =
       let n = steps (new_name_of reading.names name) (λ fresh. id_of reading.names id >>= (λ ledger. Ok (line.Name fresh ledger))) l e in
       let i = steps (id_of reading.names id) (λ ledger. Ok (line.Name n.value ledger)) l n.rest in
       id-ink reading.names are id i.value i.gave
+  named-ends other l e = absurd (cc)
 
   named_ledger-ends : (old : List (List ℕ)) (l : Line) → named_ledger_line reading old ≡ Ok l → EndsInk (token ∷ old)
-  named_ledger-ends [] l e = absurd (cc)
-  named_ledger-ends (name ∷ []) l e = absurd (cc)
-  named_ledger-ends (name ∷ parent ∷ []) l e = absurd (cc)
-  named_ledger-ends (name ∷ parent ∷ second ∷ more ∷ rest) l e = absurd (cc)
   named_ledger-ends (name ∷ parent ∷ second ∷ []) l e =
       let n = steps (new_name_of reading.names name) (λ fresh. parent_of reading.names parent >>= (λ above. number_of second >>= (λ closed. Ok (line.Ledger fresh parent (header_after above closed))))) l e in
       let p = steps (parent_of reading.names parent) (λ above. number_of second >>= (λ closed. Ok (line.Ledger n.value parent (header_after above closed)))) l n.rest in
       let c = steps (number_of second) (λ closed. Ok (line.Ledger n.value parent (header_after p.value closed))) l p.rest in
       number-inked second c.value c.gave
+  named_ledger-ends other l e = absurd (cc)
 
   setting-ends : (word : SettingWord) (old : List (List ℕ)) (l : Line) → set_line reading word old ≡ Ok l → EndsInk (token ∷ old)
   setting-ends setting.Limit old l e = limit-ends old l e

@@ -48,30 +48,11 @@ fine-small t h =
 
 event_text-fine : (w : EventWord) → is_fine (event_text w) ≡ true
 event_text-fine event.Issue = refl
-event_text-fine event.Submit = refl
-event_text-fine event.Timer = refl
-event_text-fine event.Timers = refl
-event_text-fine event.Deliver = refl
-event_text-fine event.All = refl
-event_text-fine event.Drop = refl
-event_text-fine event.Greet = refl
-event_text-fine event.Restart = refl
-event_text-fine event.Cut = refl
-event_text-fine event.Fail = refl
-event_text-fine event.Lie = refl
-event_text-fine event.Raw = refl
-event_text-fine event.Prefer = refl
-event_text-fine event.List = refl
-event_text-fine event.Heard = refl
+event_text-fine other = refl
 
 setting_text-fine : (w : SettingWord) → is_fine (setting_text w) ≡ true
 setting_text-fine setting.Limit = refl
-setting_text-fine setting.Speak = refl
-setting_text-fine setting.Node = refl
-setting_text-fine setting.Liar = refl
-setting_text-fine setting.At = refl
-setting_text-fine setting.Name = refl
-setting_text-fine setting.Ledger = refl
+setting_text-fine other = refl
 
 -- a line by its word, said again
 record IsWordedAgain (reading : Reading) (sent : ℕ) (token : List ℕ) (old : List (List ℕ)) (l : Line) : Type 0 where

@@ -139,11 +139,9 @@ nothing_later reading sent (t ∷ ts) h = ap (λ b. cond b (Ok None) (some_line 
 -- ---- THE HEADER
 
 header_ends : (ts : List (List ℕ)) → is_header ts ≡ true → EndsInk ts
-header_ends [] h = absurd (cc)
-header_ends (name ∷ []) h = absurd (cc)
-header_ends (name ∷ version ∷ more ∷ rest) h = absurd (cc)
 header_ends (name ∷ version ∷ []) h =
     subst Ink (same_bytes version (codes "1") (and_parts (bytes_eq name (codes "xl-schedule")) (bytes_eq version (codes "1")) h).1) (inked (codes "1") refl)
+header_ends other h = absurd (cc)
 
 -- ---- A LINE THAT IS TAKEN
 
@@ -155,8 +153,7 @@ IsTaken (refuses why) = ⊥
 
 nothing_gave : (reading known : Reading) (read : Result (Option Line) SchedRefusal) → answer_to reading read ≡ passes known → read ≡ Ok None
 nothing_gave reading known (Ok None) e = refl
-nothing_gave reading known (Ok (Some l)) e = absurd (cc)
-nothing_gave reading known (Err why) e = absurd (cc)
+nothing_gave reading known other e = absurd (cc)
 
 module _ (reading : Reading) (sent : ℕ) (bytes : List ℕ) where
   -- what a line within the limits says

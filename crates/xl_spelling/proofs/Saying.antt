@@ -48,12 +48,6 @@ pub tx_id-read : (names : List Named) (id : TxId) → IsId id.0 → tx_id_of nam
 tx_id-read names id h = ap (λ read. read >>= (λ i. Ok (record { 0 = i }))) (id-read names id.0 h)
 
 proposal-again : (names : List Named) (old : List (List ℕ)) (l : Lied) → said_proposal names old ≡ Ok l → IsStoredLied l → IsAgain lied_words (said_proposal names) (codes "proposal") 16650 old l
-proposal-again names [] l e stored = absurd (cc)
-proposal-again names (a ∷ []) l e stored = absurd (cc)
-proposal-again names (a ∷ b ∷ []) l e stored = absurd (cc)
-proposal-again names (a ∷ b ∷ c ∷ []) l e stored = absurd (cc)
-proposal-again names (a ∷ b ∷ c ∷ d ∷ []) l e stored = absurd (cc)
-proposal-again names (a ∷ b ∷ c ∷ d ∷ f ∷ more ∷ rest) l e stored = absurd (cc)
 proposal-again names (before ∷ position ∷ changes ∷ second ∷ made ∷ []) l e stored =
     let p = steps (ledger_id_of names before) (λ prev. set_id_of names position >>= (λ set. number_of changes >>= (λ pseq. number_of second >>= (λ close. number_of made >>= (λ time. Ok (lied.Proposal (record { prev = prev; set = set; pseq = pseq; close = close; time = time }))))))) l e in
     let s = steps (set_id_of names position) (λ set. number_of changes >>= (λ pseq. number_of second >>= (λ close. number_of made >>= (λ time. Ok (lied.Proposal (record { prev = p.value; set = set; pseq = pseq; close = close; time = time })))))) l p.rest in
@@ -86,6 +80,7 @@ proposal-again names (before ∷ position ∷ changes ∷ second ∷ made ∷ []
         omega (arith, prev-small.few, set-small.few, pseq-small.few, close-small.few, time-small.few),
       );
     }
+proposal-again names other l e stored = absurd (cc)
 
 -- the tokens of what a validation tells
 abbrev told_tokens : Option (List ℕ) → List (List ℕ)
@@ -193,17 +188,11 @@ validation-parts names sequence id second kind o l e stored =
     }
 
 validation-again : (names : List Named) (old : List (List ℕ)) (l : Lied) → said_validation names old ≡ Ok l → IsStoredLied l → IsAgain lied_words (said_validation names) (codes "validation") 16650 old l
-validation-again names [] l e stored = absurd (cc)
-validation-again names (a ∷ []) l e stored = absurd (cc)
-validation-again names (a ∷ b ∷ []) l e stored = absurd (cc)
-validation-again names (a ∷ b ∷ c ∷ []) l e stored = absurd (cc)
-validation-again names (a ∷ b ∷ c ∷ d ∷ f ∷ more ∷ rest) l e stored = absurd (cc)
 validation-again names (sequence ∷ id ∷ second ∷ kind ∷ []) l e stored = validation-parts names sequence id second kind None l e stored
 validation-again names (sequence ∷ id ∷ second ∷ kind ∷ token ∷ []) l e stored = validation-parts names sequence id second kind (Some token) l e stored
+validation-again names other l e stored = absurd (cc)
 
 header-again : (names : List Named) (old : List (List ℕ)) (l : Lied) → said_header names old ≡ Ok l → IsAgain lied_words (said_header names) (codes "header") 16650 old l
-header-again names [] l e = absurd (cc)
-header-again names (name ∷ more ∷ rest) l e = absurd (cc)
 header-again names (name ∷ []) l e =
     let h = steps (ledger_of names name) (λ ledger. Ok (lied.Header name ledger.header)) l e in
     let said : Lied = lied.Header name h.value.header in
@@ -215,10 +204,9 @@ header-again names (name ∷ []) l e =
       count = refl;
       like = inl refl;
     }
+header-again names other l e = absurd (cc)
 
 tx-again : (names : List Named) (old : List (List ℕ)) (l : Lied) → said_tx names old ≡ Ok l → IsStoredLied l → IsAgain lied_words (said_tx names) (codes "tx") 16650 old l
-tx-again names [] l e stored = absurd (cc)
-tx-again names (token ∷ more ∷ rest) l e stored = absurd (cc)
 tx-again names (token ∷ []) l e stored =
     let i = steps (tx_id_of names token) (λ id. Ok (lied.Tx id)) l e in
     let is = same-ok (lied.Tx i.value) l i.rest in
@@ -231,6 +219,7 @@ tx-again names (token ∷ []) l e stored =
       count = refl;
       like = inr ((small-inked 64 (encode_lower i.value.0) digits-small, tt), omega (arith, digits-small.few));
     }
+tx-again names other l e stored = absurd (cc)
 
 abbrev hexes : List TxId → List (List ℕ)
 hexes ids = map (λ id. encode_lower id.0) ids
@@ -325,8 +314,6 @@ set-again names token ids e h =
     ] e
 
 tx_set-again : (names : List Named) (old : List (List ℕ)) (l : Lied) → said_tx_set names old ≡ Ok l → IsStoredLied l → IsAgain lied_words (said_tx_set names) (codes "set") 16650 old l
-tx_set-again names [] l e stored = absurd (cc)
-tx_set-again names (token ∷ more ∷ rest) l e stored = absurd (cc)
 tx_set-again names (token ∷ []) l e stored =
     let i = steps (tx_set_of names token) (λ ids. Ok (lied.TxSet ids)) l e in
     let is = same-ok (lied.TxSet i.value) l i.rest in
@@ -340,6 +327,7 @@ tx_set-again names (token ∷ []) l e stored =
       count = refl;
       like = inr ((small-inked (id_spread * most_ids) (set_word i.value) small, tt), omega (arith, small.few));
     }
+tx_set-again names other l e stored = absurd (cc)
 
 -- a lie of whichever word
 pub record IsLiedAgain (names : List Named) (token : List ℕ) (old : List (List ℕ)) (l : Lied) : Type 0 where

@@ -39,24 +39,22 @@ abbrev pub IsLineAgain : (List (List ℕ) → Result Line SchedRefusal) → List
 IsLineAgain read word old l = IsAgain line_words read word 16900 old l
 
 limit_line-again : (reading : Reading) (old : List (List ℕ)) (l : Line) → limit_line reading old ≡ Ok l → IsLineAgain (limit_line reading) (codes "limit") old l
-limit_line-again reading [] l e = absurd (cc)
-limit_line-again reading (number ∷ more ∷ rest) l e = absurd (cc)
 limit_line-again reading (number ∷ []) l e =
     let n = steps (number_within least_limit most_ledgers number) (λ limit. cond reading.limited (Err (refusal.Twice number)) (Ok (line.Limit limit))) l e in
     let u = unstopped reading.limited (Ok (line.Limit n.value)) l (refusal.Twice number) n.rest in
     let is = same-ok (line.Limit n.value) l u.1 in
     let limit = number_within-same least_limit most_ledgers number n.value (omega arith) n.gave in
     record { arguments = number ∷ []; words = ap line_words (sym is) ∙ cc (limit.1); same = e; count = refl; like = inl refl }
+limit_line-again reading other l e = absurd (cc)
 
 speak_line-again : (reading : Reading) (old : List (List ℕ)) (l : Line) → speak_line reading old ≡ Ok l → IsLineAgain (speak_line reading) (codes "speak") old l
-speak_line-again reading [] l e = absurd (cc)
-speak_line-again reading (number ∷ more ∷ rest) l e = absurd (cc)
 speak_line-again reading (number ∷ []) l e =
     let n = steps (number_within 1 2 number) (λ version. cond reading.spoken (Err (refusal.Twice number)) (Ok (line.Speak version))) l e in
     let u = unstopped reading.spoken (Ok (line.Speak n.value)) l (refusal.Twice number) n.rest in
     let is = same-ok (line.Speak n.value) l u.1 in
     let version = number_within-same 1 2 number n.value (omega arith) n.gave in
     record { arguments = number ∷ []; words = ap line_words (sym is) ∙ cc (version.1); same = e; count = refl; like = inl refl }
+speak_line-again reading other l e = absurd (cc)
 
 -- a node's line, with its members by rising number
 record IsNodeAgain (reading : Reading) (number quorum : List ℕ) (mode : Result Bool SchedRefusal) (words : List (List ℕ)) (l : Line) : Type 0 where
@@ -113,10 +111,6 @@ node_mode reading number quorum members mode l e =
     (mode-same mode validating.value validating.gave).1
 
 node_line-again : (reading : Reading) (old : List (List ℕ)) (l : Line) → node_line reading old ≡ Ok l → IsLineAgain (node_line reading) (codes "node") old l
-node_line-again reading [] l e = absurd (cc)
-node_line-again reading (number ∷ []) l e = absurd (cc)
-node_line-again reading (number ∷ quorum ∷ []) l e = absurd (cc)
-node_line-again reading (number ∷ quorum ∷ members ∷ mode ∷ more ∷ rest) l e = absurd (cc)
 node_line-again reading (number ∷ quorum ∷ members ∷ []) l e =
     let again = node_of-again reading number quorum members (mode_of None) [] l (λ validating m. ap mode_words (sym (same-ok true validating m))) e in
     record {
@@ -144,24 +138,23 @@ node_line-again reading (number ∷ quorum ∷ members ∷ mode ∷ []) l e =
         omega (arith, again.first.few, again.second.few, again.third.few, mode-small.few),
       );
     }
+node_line-again reading other l e = absurd (cc)
 
 liar_line-again : (reading : Reading) (old : List (List ℕ)) (l : Line) → liar_line reading old ≡ Ok l → IsLineAgain (liar_line reading) (codes "liar") old l
-liar_line-again reading [] l e = absurd (cc)
-liar_line-again reading (number ∷ more ∷ rest) l e = absurd (cc)
 liar_line-again reading (number ∷ []) l e =
     let n = steps (new_member_of reading.nodes reading.liars number) (λ liar. Ok (line.Liar liar)) l e in
     let is = same-ok (line.Liar n.value) l n.rest in
     let liar = new_member-same reading.nodes reading.liars number n.value n.gave in
     record { arguments = number ∷ []; words = ap line_words (sym is) ∙ cc liar; same = e; count = refl; like = inl refl }
+liar_line-again reading other l e = absurd (cc)
 
 at_line-again : (old : List (List ℕ)) (l : Line) → at_line old ≡ Ok l → IsLineAgain at_line (codes "at") old l
-at_line-again [] l e = absurd (cc)
-at_line-again (moment ∷ more ∷ rest) l e = absurd (cc)
 at_line-again (moment ∷ []) l e =
     let n = steps (number_within 0 greatest_millis moment) (λ at. Ok (line.At at)) l e in
     let is = same-ok (line.At n.value) l n.rest in
     let at = number_within-same 0 greatest_millis moment n.value (omega arith) n.gave in
     record { arguments = moment ∷ []; words = ap line_words (sym is) ∙ cc (at.1); same = e; count = refl; like = inl refl }
+at_line-again other l e = absurd (cc)
 
 -- a new name is the token itself, and a name
 new_name-same : (names : List Named) (token name : List ℕ) → new_name_of names token ≡ Ok name → (is_name token ≡ true) × (token ≡ name)
@@ -193,9 +186,6 @@ name-small (first ∷ rest) h =
     }
 
 named_line-again : (reading : Reading) (old : List (List ℕ)) (l : Line) → named_line reading old ≡ Ok l → IsStored l → IsLineAgain (named_line reading) (codes "name") old l
-named_line-again reading [] l e stored = absurd (cc)
-named_line-again reading (name ∷ []) l e stored = absurd (cc)
-named_line-again reading (name ∷ id ∷ more ∷ rest) l e stored = absurd (cc)
 named_line-again reading (name ∷ id ∷ []) l e stored =
     let n = steps (new_name_of reading.names name) (λ fresh. id_of reading.names id >>= (λ ledger. Ok (line.Name fresh ledger))) l e in
     let i = steps (id_of reading.names id) (λ ledger. Ok (line.Name n.value ledger)) l n.rest in
@@ -216,12 +206,9 @@ named_line-again reading (name ∷ id ∷ []) l e stored =
       count = refl;
       like = inr ((small-inked 16 name small, (small-inked 64 digits digits-small, tt)), omega (arith, small.few, digits-small.few));
     }
+named_line-again reading other l e stored = absurd (cc)
 
 named_ledger_line-again : (reading : Reading) (old : List (List ℕ)) (l : Line) → named_ledger_line reading old ≡ Ok l → IsLineAgain (named_ledger_line reading) (codes "ledger") old l
-named_ledger_line-again reading [] l e = absurd (cc)
-named_ledger_line-again reading (name ∷ []) l e = absurd (cc)
-named_ledger_line-again reading (name ∷ parent ∷ []) l e = absurd (cc)
-named_ledger_line-again reading (name ∷ parent ∷ second ∷ more ∷ rest) l e = absurd (cc)
 named_ledger_line-again reading (name ∷ parent ∷ second ∷ []) l e =
     let n = steps (new_name_of reading.names name) (λ fresh. parent_of reading.names parent >>= (λ above. number_of second >>= (λ closed. Ok (line.Ledger fresh parent (header_after above closed))))) l e in
     let p = steps (parent_of reading.names parent) (λ above. number_of second >>= (λ closed. Ok (line.Ledger n.value parent (header_after above closed)))) l n.rest in
@@ -237,6 +224,7 @@ named_ledger_line-again reading (name ∷ parent ∷ second ∷ []) l e =
       count = refl;
       like = inl refl;
     }
+named_ledger_line-again reading other l e = absurd (cc)
 
 name_line-again : (reading : Reading) (old : List (List ℕ)) (l : Line) → name_line reading old ≡ Ok l → IsStored l → IsLineAgain (name_line reading) (codes "name") old l
 name_line-again reading old l e stored =

@@ -49,12 +49,8 @@ same_as issued.Silent = refl
 same_as (issued.Refused why) = same_failure (replies.save_of why)
 
 pub same_at : (told : TimerAnswer) → save_of (outcome_at told) ≡ save_at told
-same_at timer_answer.Nothing = refl
-same_at timer_answer.Closed = refl
-same_at timer_answer.Updated = refl
-same_at (timer_answer.Switched seq id) = refl
-same_at (timer_answer.NoRoom limit) = refl
 same_at (timer_answer.Built seq id moved_on how) = same_as how
+same_at other = refl
 
 -- A FAILURE WAS COUNTED
 
@@ -65,24 +61,7 @@ Counted old new count = Rose old new × (count ≡ new)
 told_counted : (w : Refusal) (old new : ℕ) → ((count : ℕ) → w ≡ why.KeepFault count → Counted old new count)
     → IsCounted (outcome_told w) old new
 told_counted (why.KeepFault count) old new h = h count refl
-told_counted (why.Frame w) old new h = tt
-told_counted (why.Short lack) old new h = tt
-told_counted (why.Extra more) old new h = tt
-told_counted (why.Tag w) old new h = tt
-told_counted (why.Header w) old new h = tt
-told_counted (why.Pending tx) old new h = tt
-told_counted (why.PoolFull most) old new h = tt
-told_counted (why.WrongPrev ours) old new h = tt
-told_counted (why.OldPosition kept) old new h = tt
-told_counted (why.Left member) old new h = tt
-told_counted (why.StaleProposal now) old new h = tt
-told_counted (why.Stale now signed) old new h = tt
-told_counted (why.Repeat id) old new h = tt
-told_counted (why.Conflict id) old new h = tt
-told_counted (why.OldSeq largest) old new h = tt
-told_counted (why.NotAfter kept) old new h = tt
-told_counted (why.IssuingOff failed) old new h = tt
-told_counted (why.NoKey member) old new h = tt
+told_counted other old new h = tt
 
 pub issue_counted : {X : Type 0} (r : Result X Refusal) (old new : ℕ) → CountsFault r old new
     → IsCounted (outcome_in r) old new
@@ -90,17 +69,10 @@ issue_counted (Ok done) old new h = tt
 issue_counted (Err w) old new h = told_counted w old new (λ count e. h count (ap Err e))
 
 pub beat_counted : (told : TimerAnswer) (old new : ℕ) → CountsBeatFault told old new → IsCounted (outcome_at told) old new
-beat_counted timer_answer.Nothing old new h = tt
-beat_counted timer_answer.Closed old new h = tt
-beat_counted timer_answer.Updated old new h = tt
-beat_counted (timer_answer.Switched seq id) old new h = tt
-beat_counted (timer_answer.NoRoom limit) old new h = tt
-beat_counted (timer_answer.Built seq id moved_on issued.Full) old new h = tt
-beat_counted (timer_answer.Built seq id moved_on issued.Partial) old new h = tt
-beat_counted (timer_answer.Built seq id moved_on issued.Silent) old new h = tt
 beat_counted (timer_answer.Built seq id moved_on (issued.Refused w)) old new h =
     told_counted w old new
     (λ count e. h seq id moved_on count (ap (λ (x : Refusal). timer_answer.Built seq id moved_on (issued.Refused x)) e))
+beat_counted other old new h = tt
 
 -- THE OUTCOME IS ONE OF THE EVENT'S
 
@@ -180,12 +152,8 @@ timed_quiet n =
     (λ _. following_quiet (record n { round = told.round }) told.answer.said told.answer.kind) (λ _. tt)
 
 quiet_at : (told : TimerAnswer) → IsQuiet told → outcome_at told ≡ None
-quiet_at timer_answer.Nothing q = refl
-quiet_at timer_answer.Closed q = refl
-quiet_at timer_answer.Updated q = refl
-quiet_at (timer_answer.Switched seq id) q = refl
-quiet_at (timer_answer.NoRoom limit) q = refl
 quiet_at (timer_answer.Built seq id moved_on how) q = absurd q
+quiet_at other q = refl
 
 same_beat : (x y : TimerAnswer) → Beats x ≡ Beats y → x ≡ y
 same_beat x y e = cc

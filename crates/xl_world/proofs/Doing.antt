@@ -113,10 +113,7 @@ happens_does core after e told old new h =
 -- no frame makes a node issue
 taking_quiet : (n : Node) (from : ℕ) (what : Speech) → (taken_reply n from what).issued ≡ None
 taking_quiet n from (speech.Validation v) = refl
-taking_quiet n from (speech.Header h) = refl
-taking_quiet n from (speech.Proposal p) = refl
-taking_quiet n from (speech.TxSet ids) = refl
-taking_quiet n from (speech.Tx tx) = refl
+taking_quiet n from other = refl
 
 pub frame_quiet : (n : Node) (now : ℕ) (bytes : List ℕ) → (happens n (nodes.Frame now bytes) AnsweredOk).issued ≡ None
 frame_quiet n now bytes =

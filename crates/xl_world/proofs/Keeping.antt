@@ -33,10 +33,7 @@ unless_keep n (Some failed) save v = (refl, refl, refl, refl, refl, refl)
 
 taking_keeps : (n : Node) (from : ℕ) (what : Speech) → KeepsList n (taken_reply n from what)
 taking_keeps n from (speech.Validation v) = (refl, refl, refl, refl, refl, refl)
-taking_keeps n from (speech.Header h) = (refl, refl, refl, refl, refl, refl)
-taking_keeps n from (speech.Proposal p) = (refl, refl, refl, refl, refl, refl)
-taking_keeps n from (speech.TxSet ids) = (refl, refl, refl, refl, refl, refl)
-taking_keeps n from (speech.Tx tx) = (refl, refl, refl, refl, refl, refl)
+taking_keeps n from other = (refl, refl, refl, refl, refl, refl)
 
 hearing_keeps : (n : Node) (bytes : List ℕ) → KeepsList n (bytes_reply n bytes)
 hearing_keeps n bytes = hearing_either (KeepsList n) n bytes (λ _. (refl, refl, refl, refl, refl, refl)) (λ said _. taking_keeps n said.from said.what)

@@ -46,10 +46,7 @@ issue_keeps n v false off save above = record { above = tt; stays = omega arith 
 
 taking_keeps : (n : Node) (from : ℕ) (what : Speech) → KeepsBy n.kept (taken_reply n from what)
 taking_keeps n from (speech.Validation v) = record { above = tt; stays = omega arith }
-taking_keeps n from (speech.Header h) = record { above = tt; stays = omega arith }
-taking_keeps n from (speech.Proposal p) = record { above = tt; stays = omega arith }
-taking_keeps n from (speech.TxSet ids) = record { above = tt; stays = omega arith }
-taking_keeps n from (speech.Tx tx) = record { above = tt; stays = omega arith }
+taking_keeps n from other = record { above = tt; stays = omega arith }
 
 validating_keeps : (n : Node) (h : Header) (full b : Bool) (save : Save) → KeepsBy n.kept (cond b (issuing_reply n h.seq (header_id h) full save) (reply_with n Done []))
 validating_keeps n h full true save = issue_keeps n (own_validation n h.seq (header_id h) full) (nat_lt n.kept h.seq) n.failed_save save (λ e. ltb-true _ _ e)
