@@ -1,10 +1,19 @@
 // What is noted of a node before it is asked something: what that may change.
-ghost use Rattle.std.specs.Prelude.{◌≡◌};
-ghost use Rattle.xl_noted.specs.Asking.{issue_noted};
+ghost use Rattle.std.specs.Prelude.{◌≡◌, IfOk};
+ghost use Rattle.xl_noted.specs.Asking.{
+  IsBeatNoted,
+  is_open as is_open_by,
+  is_still as is_still_by,
+  issue_noted,
+};
 
 use crate::heard::NotedVote;
-use xl_base::Seq;
+use crate::noted::NotedRound;
+use std::alloc::Global;
+use xl_base::{Millis, OutOfMemory, Seq};
 use xl_core::Node;
+use xl_ledger::LedgerNo;
+use xl_rounds::{Phase, Round};
 use xl_trie::Trie;
 
 /// What may be new once a node has issued, or was refused to.
@@ -18,6 +27,15 @@ pub struct NotedIssue {
     pub failed_save: Option<Seq>,
 }
 
+/// What may be new once a timer has come to an open round in which no member had a position.
+#[derive(Drop)]
+pub struct NotedBeat {
+    pub time: Millis,
+    /// The ledger that the next one is to follow.
+    pub previous: LedgerNo,
+    pub round: NotedRound,
+}
+
 impl NotedIssue {
     pub fn of(node: &Node<Trie>) -> NotedIssue
         ensures { result ≡ issue_noted node.now }
@@ -27,5 +45,33 @@ impl NotedIssue {
             kept: node.kept(),
             failed_save: node.failed_save(),
         }
+    }
+}
+
+/// Whether a round is open.
+pub fn is_open(round: &Round) -> bool
+    ensures { result ≡ is_open_by round.now.phase }
+{
+    matches!(round.phase(), Phase::Open)
+}
+
+/// Whether a round is open still, on the same ledger.
+pub fn is_still(previous: LedgerNo, round: &Round) -> bool
+    ensures { result ≡ is_still_by previous round.now }
+{
+    is_open(round) && round.previous() == previous
+}
+
+impl NotedBeat {
+    /// Refused only when memory runs out.
+    pub fn of(alloc: Global, node: &Node<Trie>) -> Result<NotedBeat, OutOfMemory>
+        ensures { IfOk result (IsBeatNoted node.now) }
+    {
+        let round = node.round();
+        Ok(NotedBeat {
+            time: node.time(),
+            previous: round.previous(),
+            round: NotedRound::of(alloc, round)?,
+        })
     }
 }

@@ -10,7 +10,7 @@ mod members;
 mod noted;
 mod same;
 
-pub use asked::NotedIssue;
+pub use asked::{NotedBeat, NotedIssue, is_open, is_still};
 pub use heard::{NotedLedgers, NotedPending, NotedPosition, NotedVote};
 pub use members::{NotedMember, is_position_kept, is_row_kept};
 pub use noted::{Noted, NotedRound};
