@@ -30,7 +30,7 @@ use Rattle.xl_noted.proofs.Currents.{AreCurrent}
 
 -- A ROW
 
-other_row : (from k : ℕ) (f : Row → Row) (rows : List Row) → ((row : Row) → (f row).member ≡ row.member) → k ≢ from → row_of (at_member from f rows) k ≡ row_of rows k
+pub other_row : (from k : ℕ) (f : Row → Row) (rows : List Row) → ((row : Row) → (f row).member ≡ row.member) → k ≢ from → row_of (at_member from f rows) k ≡ row_of rows k
 other_row from k f [] same other = refl
 other_row from k f (row ∷ rows) same other =
     cond_both (row.member == from) (f row ∷ rows) (row ∷ at_member from f rows) (λ rs. row_of rs k ≡ row_of (row ∷ rows) k)
@@ -42,7 +42,7 @@ other_row from k f (row ∷ rows) same other =
     differs : (a b : ℕ) → a ≢ b → (a == b) ≡ false
     differs a b other = grind (arith, nat_tests, other)
 
-taken_member : (now : ℕ) (v : Validation) (row : Row) → (take now v row).member ≡ row.member
+pub taken_member : (now : ℕ) (v : Validation) (row : Row) → (take now v row).member ≡ row.member
 taken_member now v row = cond_both (is_none (refusal row now v)) (with_validation v row) row (λ r. r.member ≡ row.member) (λ _. refl) (λ _. refl)
 
 -- A POSITION
@@ -154,7 +154,7 @@ heard_rest m n what (Some why) = itself_rest what n
 -- A MOMENT LATER
 
 -- within a second no row changes
-within : (at : ℕ) (n : Node) → AreCurrent n → max n.time at / 1000 ≡ n.time / 1000 → map (row_at (max n.time at / 1000)) n.rows ≡ n.rows
+pub within : (at : ℕ) (n : Node) → AreCurrent n → max n.time at / 1000 ≡ n.time / 1000 → map (row_at (max n.time at / 1000)) n.rows ≡ n.rows
 within at n current same = ap (λ (s : ℕ). map (row_at s) n.rows) same ∙ none_expire (n.time / 1000) n.rows current
 
 at_second : (m at : ℕ) (n later : Node) → AreCurrent n → max n.time at / 1000 ≡ n.time / 1000 → LeavesOthers m (at_moment at n) later → LeavesOthers m n later

@@ -1,2 +1,3 @@
 pub mod Currents
 pub mod Hearing
+pub mod Asking

@@ -4,11 +4,13 @@
 //! `noted` of the node, and each test answers as its definition says.
 #![tactic(auto)]
 
+mod asked;
 mod heard;
 mod members;
 mod noted;
 mod same;
 
+pub use asked::{NotedBeat, NotedIssue, is_open, is_still};
 pub use heard::{NotedLedgers, NotedPending, NotedPosition, NotedVote};
 pub use members::{NotedMember, is_position_kept, is_row_kept};
 pub use noted::{Noted, NotedRound};

@@ -52,7 +52,8 @@ pub struct Noted {
 }
 
 impl NotedRound {
-    fn of(alloc: Global, round: &Round) -> Result<NotedRound, OutOfMemory>
+    /// A node's round now. Refused only when memory runs out.
+    pub fn of(alloc: Global, round: &Round) -> Result<NotedRound, OutOfMemory>
         ensures { IfOk result (λ noted. round_seen noted ≡ round_noted round.now) }
     {
         Ok(NotedRound {

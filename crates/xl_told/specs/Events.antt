@@ -50,6 +50,10 @@ what_text names (what.Raw to bytes) = codes "raw " ++ decimal to ++ space ++ enc
 what_text names (what.Prefer node) = codes "prefer " ++ decimal node
 what_text names (what.Heard node) = codes "heard " ++ decimal node
 
+-- its line, and when it happens
+abbrev pub lead_text : ℕ → ℕ → List ℕ
+lead_text n at = codes "event " ++ decimal n ++ space ++ decimal at ++ space
+
 -- the event, or the part of one, that stands in line n of the schedule
 abbrev pub event_line : List Named → ℕ → Event → List ℕ
 event_line names n e =

@@ -7,19 +7,17 @@ ghost use Rattle.xl_wire.specs.Frames.{decoded_of};
 
 use crate::hashed::Hashed;
 use crate::words::{
-    push_number, push_numbered, push_proposal, push_set_id, push_tx, push_validation,
+    push_id, push_number, push_numbered, push_proposal, push_set_id, push_tx, push_validation,
 };
-use std::alloc::Global;
 use xl_base::{LedgerId, OutOfMemory};
 use xl_ledger::{Header, read_header};
-use xl_running::push_id;
 use xl_sched::Reader;
 use xl_wire::{Body, Decoded, Ids, decode};
 
 fn push_header(
-    alloc: Global,
     text: &mut String,
     reader: &Reader,
+    hashed: &mut Hashed,
     header: &Header,
     id: &LedgerId,
 ) -> Result<(), OutOfMemory>
@@ -29,14 +27,13 @@ fn push_header(
 {
     push_numbered(text, "header ", u64::from(header.seq))?;
     text.push(' ')?;
-    push_id(alloc, text, reader, id)?;
+    push_id(text, reader, hashed, id)?;
     text.push(' ')?;
-    push_id(alloc, text, reader, &header.parent)?;
+    push_id(text, reader, hashed, &header.parent)?;
     push_numbered(text, " ", u64::from(header.close))
 }
 
 fn push_set(
-    alloc: Global,
     text: &mut String,
     reader: &Reader,
     hashed: &mut Hashed,
@@ -47,12 +44,12 @@ fn push_set(
 {
     push_numbered(text, "set ", ids.len() as u64)?;
     text.push(' ')?;
-    push_set_id(alloc, text, reader, &hashed.set_id(alloc, ids)?)
+    let id = hashed.set_id(ids)?;
+    push_set_id(text, reader, hashed, &id)
 }
 
 /// What a body says.
 pub fn push_body(
-    alloc: Global,
     text: &mut String,
     reader: &Reader,
     hashed: &mut Hashed,
@@ -63,30 +60,26 @@ pub fn push_body(
     match body {
         Body::Proposal(proposal) => {
             text.push_str("proposal ")?;
-            push_proposal(alloc, text, reader, proposal)
+            push_proposal(text, reader, hashed, proposal)
         }
         Body::Validation(validation) => {
             text.push_str("validation ")?;
-            push_validation(alloc, text, reader, validation)
+            push_validation(text, reader, hashed, validation)
         }
-        Body::Header(bytes) => push_header(
-            alloc,
-            text,
-            reader,
-            &read_header(bytes),
-            &hashed.header_id(bytes),
-        ),
-        Body::TxSet(ids) => push_set(alloc, text, reader, hashed, ids),
+        Body::Header(bytes) => {
+            let id = hashed.header_id(bytes);
+            push_header(text, reader, hashed, &read_header(bytes), &id)
+        }
+        Body::TxSet(ids) => push_set(text, reader, hashed, ids),
         Body::Tx(id) => {
             text.push_str("tx ")?;
-            push_tx(alloc, text, reader, id)
+            push_tx(text, reader, hashed, id)
         }
     }
 }
 
 /// What the bytes of a frame say.
 pub fn push_said(
-    alloc: Global,
     text: &mut String,
     reader: &Reader,
     hashed: &mut Hashed,
@@ -96,7 +89,7 @@ pub fn push_said(
         ≡ string_bytes text.old ++ said_text reader.now.names (decoded_of bytes.now)) }
 {
     match decode(bytes) {
-        Decoded::Whole(frame, _) => push_body(alloc, text, reader, hashed, &frame.body),
+        Decoded::Whole(frame, _) => push_body(text, reader, hashed, &frame.body),
         Decoded::Need(_) | Decoded::Refused(_) => Ok(text.push_str("none")?),
     }
 }

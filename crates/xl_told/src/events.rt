@@ -8,19 +8,19 @@ ghost use Rattle.hex.specs.Hex.{encode_lower};
 ghost use Rattle.xl_running.specs.Texts.{id_text};
 ghost use Rattle.xl_sched.specs.declared.event.What.TheVariants.{List as IsList, Raw as IsRaw};
 
+use crate::hashed::Hashed;
+use crate::leads::Lead;
 use crate::words::{
-    push_fullness, push_ids, push_list, push_numbered, push_of, push_proposal, push_tx,
+    push_fullness, push_id, push_ids, push_list, push_numbered, push_of, push_proposal, push_tx,
     push_validation,
 };
-use std::alloc::Global;
 use xl_base::{LedgerId, NodeNo, OutOfMemory, Seq};
-use xl_running::push_id;
 use xl_sched::{Ask, Event, Lied, Reader, What, printed_token};
 
 fn push_issue(
-    alloc: Global,
     text: &mut String,
     reader: &Reader,
+    hashed: &mut Hashed,
     node: NodeNo,
     seq: Seq,
     id: &LedgerId,
@@ -32,13 +32,18 @@ fn push_issue(
     push_of(text, "issue ", node)?;
     push_numbered(text, " ", u64::from(seq))?;
     text.push(' ')?;
-    push_id(alloc, text, reader, id)?;
+    push_id(text, reader, hashed, id)?;
     text.push(' ')?;
     push_fullness(text, full)
 }
 
 /// What a node is asked.
-fn push_ask(alloc: Global, text: &mut String, reader: &Reader, ask: &Ask) -> Result<(), OutOfMemory>
+fn push_ask(
+    text: &mut String,
+    reader: &Reader,
+    hashed: &mut Hashed,
+    ask: &Ask,
+) -> Result<(), OutOfMemory>
     ensures { OnOk result (string_bytes text.new ≡ string_bytes text.old ++ ask_text reader.now.names ask.now) }
 {
     match ask {
@@ -47,16 +52,16 @@ fn push_ask(alloc: Global, text: &mut String, reader: &Reader, ask: &Ask) -> Res
             seq,
             id,
             full,
-        } => push_issue(alloc, text, reader, *node, *seq, id, *full),
+        } => push_issue(text, reader, hashed, *node, *seq, id, *full),
         Ask::Timer { node } => push_of(text, "timer ", *node),
     }
 }
 
 /// What a liar says.
 fn push_lied(
-    alloc: Global,
     text: &mut String,
     reader: &Reader,
+    hashed: &mut Hashed,
     lied: &Lied,
 ) -> Result<(), OutOfMemory>
     ensures { OnOk result (string_bytes text.new ≡ string_bytes text.old ++ lied_text reader.now.names lied.now) }
@@ -64,11 +69,11 @@ fn push_lied(
     match lied {
         Lied::Proposal(proposal) => {
             text.push_str("proposal ")?;
-            push_proposal(alloc, text, reader, proposal)
+            push_proposal(text, reader, hashed, proposal)
         }
         Lied::Validation(validation) => {
             text.push_str("validation ")?;
-            push_validation(alloc, text, reader, validation)
+            push_validation(text, reader, hashed, validation)
         }
         Lied::Header { name, .. } => {
             text.push_str("header ")?;
@@ -76,11 +81,11 @@ fn push_lied(
         }
         Lied::TxSet(ids) => {
             text.push_str("set ")?;
-            push_ids(alloc, text, reader, ids.as_slice())
+            push_ids(text, reader, hashed, ids.as_slice())
         }
         Lied::Tx(tx) => {
             text.push_str("tx ")?;
-            push_tx(alloc, text, reader, tx)
+            push_tx(text, reader, hashed, tx)
         }
     }
 }
@@ -99,9 +104,9 @@ fn push_held(text: &mut String, new: bool) -> Result<(), OutOfMemory>
 
 /// A disturbed save, and what is asked.
 fn push_save(
-    alloc: Global,
     text: &mut String,
     reader: &Reader,
+    hashed: &mut Hashed,
     word: &str,
     new: bool,
     ask: &Ask,
@@ -112,26 +117,29 @@ fn push_save(
     text.push_str(word)?;
     push_held(text, new)?;
     text.push(' ')?;
-    push_ask(alloc, text, reader, ask)
+    push_ask(text, reader, hashed, ask)
 }
 
 /// Bytes that are handed to a node.
-fn push_raw(alloc: Global, text: &mut String, to: NodeNo, bytes: &[u8]) -> Result<(), OutOfMemory>
+fn push_raw(
+    text: &mut String,
+    hashed: &Hashed,
+    to: NodeNo,
+    bytes: &[u8],
+) -> Result<(), OutOfMemory>
     ensures { OnOk result (string_bytes text.new
         ≡ string_bytes text.old ++ codes "raw " ++ decimal to ++ space ++ encode_lower bytes.now) }
 {
     push_of(text, "raw ", to)?;
     text.push(' ')?;
-    let digits = hex::encode(alloc, bytes)?;
-    text.push_str(digits.as_str())?;
-    Ok(())
+    hashed.push_bytes(text, bytes)
 }
 
 /// What a liar says to a node.
 fn push_lie(
-    alloc: Global,
     text: &mut String,
     reader: &Reader,
+    hashed: &mut Hashed,
     from: NodeNo,
     to: NodeNo,
     lied: &Lied,
@@ -142,25 +150,25 @@ fn push_lie(
     push_of(text, "lie ", from)?;
     push_of(text, " ", to)?;
     text.push(' ')?;
-    push_lied(alloc, text, reader, lied)
+    push_lied(text, reader, hashed, lied)
 }
 
 /// What happens.
 fn push_what(
-    alloc: Global,
     text: &mut String,
     reader: &Reader,
+    hashed: &mut Hashed,
     what: &What,
 ) -> Result<(), OutOfMemory>
     ensures { OnOk result (string_bytes text.new ≡ string_bytes text.old ++ what_text reader.now.names what.now) }
 {
     match what {
-        What::Ask(ask) => push_ask(alloc, text, reader, ask),
+        What::Ask(ask) => push_ask(text, reader, hashed, ask),
         What::Timers => Ok(text.push_str("timers")?),
         What::Submit { node, tx } => {
             push_of(text, "submit ", *node)?;
             text.push(' ')?;
-            push_tx(alloc, text, reader, tx)
+            push_tx(text, reader, hashed, tx)
         }
         What::Deliver { place } => push_numbered(text, "deliver ", *place),
         What::All => Ok(text.push_str("all")?),
@@ -170,15 +178,15 @@ fn push_what(
             push_of(text, " ", *peer)
         }
         What::Restart { node } => push_of(text, "restart ", *node),
-        What::Cut { new, ask } => push_save(alloc, text, reader, "cut ", *new, ask),
-        What::Fail { new, ask } => push_save(alloc, text, reader, "fail ", *new, ask),
+        What::Cut { new, ask } => push_save(text, reader, hashed, "cut ", *new, ask),
+        What::Fail { new, ask } => push_save(text, reader, hashed, "fail ", *new, ask),
         What::List { node, list } => {
             push_of(text, "list ", *node)?;
             text.push(' ')?;
             push_list(text, list)
         }
-        What::Lie { from, to, what } => push_lie(alloc, text, reader, *from, *to, what),
-        What::Raw { to, bytes } => push_raw(alloc, text, *to, bytes.as_slice()),
+        What::Lie { from, to, what } => push_lie(text, reader, hashed, *from, *to, what),
+        What::Raw { to, bytes } => push_raw(text, hashed, *to, bytes.as_slice()),
         What::Prefer { node } => push_of(text, "prefer ", *node),
         What::Heard { node } => push_of(text, "heard ", *node),
     }
@@ -186,19 +194,18 @@ fn push_what(
 
 /// The event, or the part of one, that stands in a line of the schedule.
 pub fn push_event(
-    alloc: Global,
     text: &mut String,
     reader: &Reader,
+    hashed: &mut Hashed,
+    lead: &Lead,
     line: u64,
     event: &Event,
 ) -> Result<(), OutOfMemory>
     ensures { OnOk result (string_bytes text.new
         ≡ string_bytes text.old ++ event_line reader.now.names line event.now) }
 {
-    push_numbered(text, "event ", line)?;
-    push_numbered(text, " ", event.at)?;
-    text.push(' ')?;
-    push_what(alloc, text, reader, &event.what)?;
+    lead.push(text, line, event.at)?;
+    push_what(text, reader, hashed, &event.what)?;
     text.push('\n')?;
     Ok(())
 }

@@ -1,9 +1,11 @@
 // What was hashed last.
-ghost use Rattle.std.specs.Prelude.{◌≡◌, IfOk, IfSome, IsTrue};
+ghost use Rattle.std.specs.Prelude.{◌≡◌, ◌<◌, ◌++◌, All, IfOk, IfSome, IsTrue, length, OnOk};
+ghost use Rattle.std.specs.String.{string_bytes};
+ghost use Rattle.hex.specs.Hex.{encode_lower};
 ghost use Rattle.xl_base.specs.Sets.{set_id_of};
 ghost use Rattle.xl_ledger.specs.Headers.{header_id};
 ghost use Rattle.xl_ledger.specs.Reading.{header_in};
-ghost use Rattle.xl_told.specs.Hashed.{IsNamedHeader, IsNamedSet};
+ghost use Rattle.xl_told.specs.Hashed.{IsNamedHeader, IsNamedSet, IsSpelled};
 
 use std::alloc::Global;
 use std::marker::Model;
@@ -11,11 +13,25 @@ use xl_base::{LedgerId, OutOfMemory, SetId, TxId, set_id};
 use xl_ledger::{id_of, read_header};
 use xl_wire::Ids;
 
-/// The header and the set that were hashed last, with their ids: what is said to several is hashed once.
+/// For how many ids their digits are kept.
+const SPELLED: usize = 64;
+
+/// The header and the set that were hashed last, with their ids: what is said to several is hashed once. So ids are
+/// spelled once.
 #[derive(Drop)]
 pub struct Hashed {
+    alloc: Global,
     header: Option<NamedHeader>,
     set: Option<NamedSet>,
+    /// Each in the place of its first byte.
+    spelled: Vec<SpelledId>,
+}
+
+/// An id and its digits.
+#[derive(Drop)]
+struct SpelledId {
+    id: LedgerId,
+    digits: String,
 }
 
 /// The bytes of a header, and its ledger's id.
@@ -33,14 +49,15 @@ struct NamedSet {
 }
 
 impl Model for Hashed {
-    ghost use Rattle.std.specs.Prelude.{IfSome};
-    ghost use Rattle.xl_told.specs.Hashed.{IsNamedHeader, IsNamedSet};
+    ghost use Rattle.std.specs.Prelude.{◌≡◌, All, IfSome, length};
+    ghost use Rattle.xl_told.specs.Hashed.{IsNamedHeader, IsNamedSet, IsSpelled};
 
     ghost Value = { Unit {0} };
 
     ghost view = { λ _. tt };
 
-    ghost invariant = { λ h. IfSome h.header IsNamedHeader × IfSome h.set IsNamedSet };
+    ghost invariant = { λ h. IfSome h.header IsNamedHeader × IfSome h.set IsNamedSet
+        × All IsSpelled h.spelled.items × length h.spelled.items ≡ 64 };
 }
 
 fn are_same_bytes(one: &[u8], other: &[u8]) -> bool
@@ -49,10 +66,25 @@ fn are_same_bytes(one: &[u8], other: &[u8]) -> bool
     one == other
 }
 
-fn are_same_ids(one: &[TxId], other: &[TxId]) -> bool
+fn is_same_id(one: &TxId, other: &TxId) -> bool
     ensures { IsTrue result → one.now ≡ other.now }
 {
     one == other
+}
+
+/// Whether these are the ids of a list.
+fn are_listed(list: &[TxId], ids: &Ids<'_>) -> bool
+    ensures { IsTrue result → list.now ≡ ids.now }
+{
+    if list.len() != ids.len() {
+        return false;
+    }
+    for i in 0..list.len() {
+        if !is_same_id(&list[i], &ids.get(i)) {
+            return false;
+        }
+    }
+    true
 }
 
 /// The id of a header's ledger, if it is the kept one.
@@ -67,12 +99,12 @@ fn known_header(kept: &Option<NamedHeader>, bytes: &[u8; 118]) -> Option<LedgerI
 }
 
 /// The id of a set, if it is the kept one.
-fn known_set(kept: &Option<NamedSet>, ids: &[TxId]) -> Option<SetId>
+fn known_set(kept: &Option<NamedSet>, ids: &Ids<'_>) -> Option<SetId>
     requires { IfSome kept.now IsNamedSet }
     ensures { IfSome result (λ id. id ≡ set_id_of ids.now) }
 {
     match kept {
-        Some(named) if are_same_ids(named.ids.as_slice(), ids) => Some(named.id),
+        Some(named) if are_listed(named.ids.as_slice(), ids) => Some(named.id),
         _ => None,
     }
 }
@@ -88,13 +120,79 @@ fn list_of(alloc: Global, ids: &Ids<'_>) -> Result<Vec<TxId>, OutOfMemory>
     Ok(list)
 }
 
+/// An id is spelled.
+fn spell(alloc: Global, id: &LedgerId) -> Result<SpelledId, OutOfMemory>
+    ensures spelled { IfOk result IsSpelled }
+    ensures same { IfOk result (λ spelled. spelled.id ≡ id.now) }
+{
+    let digits = hex::encode(alloc, id.0.as_slice())?;
+    Ok(SpelledId { id: *id, digits })
+}
+
+/// An id is spelled for each place.
+fn spell_each(alloc: Global) -> Result<Vec<SpelledId>, OutOfMemory>
+    ensures each { IfOk result (λ spelled. All IsSpelled spelled.items) }
+    ensures count { IfOk result (λ spelled. length spelled.items ≡ 64) }
+{
+    let mut spelled = Vec::new(alloc);
+    for _ in 0..SPELLED {
+        spelled.push(spell(alloc, &LedgerId([0; 32]))?)?;
+    }
+    Ok(spelled)
+}
+
+fn is_spelled(spelled: &SpelledId, id: &LedgerId) -> bool
+    ensures { IsTrue result → spelled.now.id ≡ id.now }
+{
+    spelled.id == *id
+}
+
+/// The digits of an id, if they stand in this place.
+fn known_digits<'a>(spelled: &'a [SpelledId], place: usize, id: &LedgerId) -> Option<&'a str>
+    requires each { All IsSpelled spelled.now }
+    requires within { place < length spelled.now }
+    ensures { IfSome result (λ digits. digits.now ≡ encode_lower id.now.0) }
+{
+    let kept = &spelled[place];
+    if is_spelled(kept, id) {
+        Some(kept.digits.as_str())
+    } else {
+        None
+    }
+}
+
 impl Hashed {
-    /// Nothing was hashed yet.
-    pub fn none() -> Hashed {
-        Hashed {
+    /// Nothing was hashed yet. Refused only when memory runs out.
+    pub fn none(alloc: Global) -> Result<Hashed, OutOfMemory> {
+        Ok(Hashed {
+            alloc,
             header: None,
             set: None,
+            spelled: spell_each(alloc)?,
+        })
+    }
+
+    /// The digits of an id, added to a text.
+    pub(crate) fn push_digits(&mut self, text: &mut String, id: &LedgerId) -> Result<(), OutOfMemory>
+        ensures { OnOk result (string_bytes text.new ≡ string_bytes text.old ++ encode_lower id.now.0) }
+    {
+        let place = (id.0[0] % 64) as usize;
+        if let Some(digits) = known_digits(self.spelled.as_slice(), place, id) {
+            return Ok(text.push_str(digits)?);
         }
+        let spelled = spell(self.alloc, id)?;
+        text.push_str(spelled.digits.as_str())?;
+        self.spelled[place] = spelled;
+        Ok(())
+    }
+
+    /// The digits of bytes, added to a text.
+    pub(crate) fn push_bytes(&self, text: &mut String, bytes: &[u8]) -> Result<(), OutOfMemory>
+        ensures { OnOk result (string_bytes text.new ≡ string_bytes text.old ++ encode_lower bytes.now) }
+    {
+        let digits = hex::encode(self.alloc, bytes)?;
+        text.push_str(digits.as_str())?;
+        Ok(())
     }
 
     /// The id of the ledger whose header is spelled so.
@@ -116,14 +214,16 @@ impl Hashed {
     }
 
     /// The id of a set.
-    pub(crate) fn set_id(&mut self, alloc: Global, ids: &Ids<'_>) -> Result<SetId, OutOfMemory>
+    pub(crate) fn set_id(&mut self, ids: &Ids<'_>) -> Result<SetId, OutOfMemory>
         ensures { IfOk result (λ id. id ≡ set_id_of ids.now) }
     {
-        let ids = list_of(alloc, ids)?;
-        Ok(match known_set(&self.set, ids.as_slice()) {
-            Some(id) => id,
-            None => self.hash_set(ids),
-        })
+        match known_set(&self.set, ids) {
+            Some(id) => Ok(id),
+            None => {
+                let ids = list_of(self.alloc, ids)?;
+                Ok(self.hash_set(ids))
+            }
+        }
     }
 
     fn hash_set(&mut self, ids: Vec<TxId>) -> SetId

@@ -9,12 +9,14 @@
 mod bodies;
 mod events;
 mod hashed;
+mod leads;
 mod words;
 
 pub use bodies::{push_body, push_said};
 pub use events::push_event;
 pub use hashed::Hashed;
+pub use leads::Lead;
 pub use words::{
-    push_ids, push_ledger, push_list, push_number, push_numbered, push_of, push_proposal,
+    push_id, push_ids, push_ledger, push_list, push_number, push_numbered, push_of, push_proposal,
     push_validation,
 };

@@ -1,5 +1,5 @@
 // Words that several lines share, added to a text.
-ghost use Rattle.std.specs.Prelude.{◌≡◌, ◌++◌, ◌∷◌, codes, decimal, OnOk};
+ghost use Rattle.std.specs.Prelude.{◌≡◌, ◌<◌, ◌++◌, ◌∷◌, codes, decimal, OnOk};
 ghost use Rattle.std.specs.List.{flat_map};
 ghost use Rattle.std.specs.String.{string_bytes};
 ghost use Rattle.xl_running.specs.Texts.{id_text, space};
@@ -15,17 +15,26 @@ ghost use Rattle.xl_told.specs.Words.{
   validation_text,
 };
 
+use crate::hashed::Hashed;
 use itoa::Buffer;
-use std::alloc::Global;
 use xl_base::{LedgerId, NodeNo, OutOfMemory, Seq, SetId, TxId};
 use xl_lists::List;
-use xl_running::push_id;
-use xl_sched::Reader;
+use xl_sched::{Reader, printed_token};
 use xl_wire::{Proposal, Validation};
 
-/// A number, in decimal digits.
+/// A number below ten.
+#[inline(always)]
+fn push_digit(text: &mut String, digit: u8) -> Result<(), OutOfMemory>
+    requires { digit < 10 }
+    ensures { OnOk result (string_bytes text.new ≡ string_bytes text.old ++ decimal digit) }
+{
+    text.push((b'0' + digit) as char)?;
+    Ok(())
+}
+
+/// A number of more digits than two.
 // A formatter of std would take the text away and give it back.
-pub fn push_number(text: &mut String, number: u64) -> Result<(), OutOfMemory>
+fn push_digits(text: &mut String, number: u64) -> Result<(), OutOfMemory>
     ensures { OnOk result (string_bytes text.new ≡ string_bytes text.old ++ decimal number) }
 {
     let mut digits = Buffer::new();
@@ -33,7 +42,24 @@ pub fn push_number(text: &mut String, number: u64) -> Result<(), OutOfMemory>
     Ok(())
 }
 
+/// A number, in decimal digits.
+// Most have one digit or two.
+pub fn push_number(text: &mut String, number: u64) -> Result<(), OutOfMemory>
+    ensures { OnOk result (string_bytes text.new ≡ string_bytes text.old ++ decimal number) }
+{
+    if number < 10 {
+        return push_digit(text, number as u8);
+    }
+    if number < 100 {
+        push_digit(text, (number / 10) as u8)?;
+        return push_digit(text, (number % 10) as u8);
+    }
+    push_digits(text, number)
+}
+
 /// A word and a number.
+// A word that is known where this is called is copied as it stands there.
+#[inline(always)]
 pub fn push_numbered(text: &mut String, word: &str, number: u64) -> Result<(), OutOfMemory>
     ensures { OnOk result (string_bytes text.new ≡ string_bytes text.old ++ word.now ++ decimal number) }
 {
@@ -42,32 +68,48 @@ pub fn push_numbered(text: &mut String, word: &str, number: u64) -> Result<(), O
 }
 
 /// A word and the number of a member.
+#[inline(always)]
 pub fn push_of(text: &mut String, word: &str, member: NodeNo) -> Result<(), OutOfMemory>
     ensures { OnOk result (string_bytes text.new ≡ string_bytes text.old ++ word.now ++ decimal member) }
 {
     push_numbered(text, word, u64::from(member.get()))
 }
 
-pub fn push_set_id(
-    alloc: Global,
+/// An id, by the first declared name that stands for it, or in digits.
+pub fn push_id(
     text: &mut String,
     reader: &Reader,
+    hashed: &mut Hashed,
+    id: &LedgerId,
+) -> Result<(), OutOfMemory>
+    ensures { OnOk result (string_bytes text.new ≡ string_bytes text.old ++ id_text reader.now.names id.now) }
+{
+    match reader.name_of(&id.0) {
+        Some(name) => printed_token(name, text),
+        None => hashed.push_digits(text, id),
+    }
+}
+
+pub fn push_set_id(
+    text: &mut String,
+    reader: &Reader,
+    hashed: &mut Hashed,
     id: &SetId,
 ) -> Result<(), OutOfMemory>
     ensures { OnOk result (string_bytes text.new ≡ string_bytes text.old ++ set_text reader.now.names id.now) }
 {
-    push_id(alloc, text, reader, &LedgerId(id.0))
+    push_id(text, reader, hashed, &LedgerId(id.0))
 }
 
 pub fn push_tx(
-    alloc: Global,
     text: &mut String,
     reader: &Reader,
+    hashed: &mut Hashed,
     id: &TxId,
 ) -> Result<(), OutOfMemory>
     ensures { OnOk result (string_bytes text.new ≡ string_bytes text.old ++ tx_text reader.now.names id.now) }
 {
-    push_id(alloc, text, reader, &LedgerId(id.0))
+    push_id(text, reader, hashed, &LedgerId(id.0))
 }
 
 /// The numbers of members, each behind a comma.
@@ -103,9 +145,9 @@ pub fn push_list(text: &mut String, list: &List) -> Result<(), OutOfMemory>
 
 /// Ids of transactions, each behind a comma.
 fn push_other_ids(
-    alloc: Global,
     text: &mut String,
     reader: &Reader,
+    hashed: &mut Hashed,
     others: &[TxId],
 ) -> Result<(), OutOfMemory>
     ensures { OnOk result (string_bytes text.new
@@ -113,16 +155,16 @@ fn push_other_ids(
 {
     for other in others {
         text.push(',')?;
-        push_tx(alloc, text, reader, other)?;
+        push_tx(text, reader, hashed, other)?;
     }
     Ok(())
 }
 
 /// Ids of transactions, with a comma between each two, or `-` for none.
 pub fn push_ids(
-    alloc: Global,
     text: &mut String,
     reader: &Reader,
+    hashed: &mut Hashed,
     ids: &[TxId],
 ) -> Result<(), OutOfMemory>
     ensures { OnOk result (string_bytes text.new ≡ string_bytes text.old ++ ids_text reader.now.names ids.now) }
@@ -131,8 +173,8 @@ pub fn push_ids(
         text.push('-')?;
         return Ok(());
     };
-    push_tx(alloc, text, reader, first)?;
-    push_other_ids(alloc, text, reader, others)
+    push_tx(text, reader, hashed, first)?;
+    push_other_ids(text, reader, hashed, others)
 }
 
 pub fn push_fullness(text: &mut String, full: bool) -> Result<(), OutOfMemory>
@@ -148,9 +190,9 @@ pub fn push_fullness(text: &mut String, full: bool) -> Result<(), OutOfMemory>
 
 /// The ledger that was last reported, if it is told, as one token more.
 fn push_validated(
-    alloc: Global,
     text: &mut String,
     reader: &Reader,
+    hashed: &mut Hashed,
     validated: &Option<LedgerId>,
 ) -> Result<(), OutOfMemory>
     ensures { OnOk result (string_bytes text.new
@@ -159,7 +201,7 @@ fn push_validated(
     match validated {
         Some(id) => {
             text.push(' ')?;
-            push_id(alloc, text, reader, id)
+            push_id(text, reader, hashed, id)
         }
         None => Ok(()),
     }
@@ -167,9 +209,9 @@ fn push_validated(
 
 /// A ledger, by its sequence and its id.
 pub fn push_ledger(
-    alloc: Global,
     text: &mut String,
     reader: &Reader,
+    hashed: &mut Hashed,
     seq: Seq,
     id: &LedgerId,
 ) -> Result<(), OutOfMemory>
@@ -178,38 +220,38 @@ pub fn push_ledger(
 {
     push_number(text, u64::from(seq))?;
     text.push(' ')?;
-    push_id(alloc, text, reader, id)
+    push_id(text, reader, hashed, id)
 }
 
 pub fn push_validation(
-    alloc: Global,
     text: &mut String,
     reader: &Reader,
+    hashed: &mut Hashed,
     validation: &Validation,
 ) -> Result<(), OutOfMemory>
     ensures { OnOk result (string_bytes text.new
         ≡ string_bytes text.old ++ validation_text reader.now.names validation.now) }
 {
-    push_ledger(alloc, text, reader, validation.seq, &validation.id)?;
+    push_ledger(text, reader, hashed, validation.seq, &validation.id)?;
     text.push(' ')?;
     push_number(text, u64::from(validation.signed))?;
     text.push(' ')?;
     push_fullness(text, validation.full)?;
-    push_validated(alloc, text, reader, &validation.validated)
+    push_validated(text, reader, hashed, &validation.validated)
 }
 
 pub fn push_proposal(
-    alloc: Global,
     text: &mut String,
     reader: &Reader,
+    hashed: &mut Hashed,
     proposal: &Proposal,
 ) -> Result<(), OutOfMemory>
     ensures { OnOk result (string_bytes text.new
         ≡ string_bytes text.old ++ proposal_text reader.now.names proposal.now) }
 {
-    push_id(alloc, text, reader, &proposal.prev)?;
+    push_id(text, reader, hashed, &proposal.prev)?;
     text.push(' ')?;
-    push_set_id(alloc, text, reader, &proposal.set)?;
+    push_set_id(text, reader, hashed, &proposal.set)?;
     push_numbered(text, " ", u64::from(proposal.pseq))?;
     push_numbered(text, " ", u64::from(proposal.close))?;
     push_numbered(text, " ", u64::from(proposal.time))

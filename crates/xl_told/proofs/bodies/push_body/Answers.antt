@@ -8,7 +8,7 @@ use Rattle.xl_told.specs.Bodies.{header_text}
 use Rattle.xl_told.proofs.bodies.push_body.Goals as goal
 
 pub push_header-requires : goal.push_header-requires
-push_header-requires c = c.header_id.ensures ∙ ap header_id (sym c.read_header.ensures.exact)
+push_header-requires c = c.header_id-id.ensures ∙ ap header_id (sym c.read_header.ensures.exact)
 
 pub returns-in-Header : goal.returns-in-Header
 returns-in-Header c =

@@ -1,5 +1,5 @@
 -- the kept bytes are these
-use Rattle.std.proofs.Common.{◌≡◌, ℕ, List, Option, ap, ◌∙◌, subst}
+use Rattle.std.proofs.Common.{ℕ, List, Option, ap, ◌∙◌, subst}
 use Rattle.std.specs.Prelude.{IfSome}
 use Rattle.xl_ledger.specs.Headers.{header_id}
 use Rattle.xl_ledger.specs.Reading.{header_in}
