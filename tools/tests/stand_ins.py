@@ -1,4 +1,4 @@
-"""A program in the place of a validator, which reports at its beginning and at its end."""
+"""A program in the place of a validator, which reports at its beginning and at its end, and takes what clients say."""
 import os
 import sys
 
@@ -6,7 +6,7 @@ import chains
 
 # A word of its settings is spoilt by what SPOILS names.
 STAND_IN = '''#!%s
-import os, sys, time, tomllib
+import os, socket, sys, threading, time, tomllib
 spoilt = os.environ.get('SPOILS')
 if sys.argv[1] == 'audit':
     text = sys.stdin.read()
@@ -25,6 +25,16 @@ if sys.argv[1] == 'blame':
     sys.exit(print('blame 0 0 1 1') or 1 if forks else print('clear'))
 settings = tomllib.loads(sys.stdin.read())
 me = settings['me']
+def answer():
+    host, port = settings['submit_at'].rsplit(':', 1)
+    with socket.create_server((host, int(port))) as door:
+        while True:
+            client, _ = door.accept()
+            with client, client.makefile() as said:
+                said.readline()
+                client.sendall(b'taken\\n')
+if 'submit_at' in settings:
+    threading.Thread(target=answer, daemon=True).start()
 name = lambda sequence: '%%064x' %% (sequence + (me if spoilt == 'report' else 0))
 print('full 1', name(1), flush=True)
 time.sleep(settings['run_ms'] / 1000)
