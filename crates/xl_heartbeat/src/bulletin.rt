@@ -1,6 +1,7 @@
 ghost use Rattle.std.specs.Prelude.{◌≡◌, ◌+◌, ◌≤◌, IfOk, Some, None};
 ghost use Rattle.std.specs.String.{string_bytes};
 ghost use Rattle.xl_base.specs.Moments.{greatest_millis};
+ghost use Rattle.xl_status.specs.Hearings.{after_status};
 ghost use Rattle.xl_status.specs.Texts.{status_text, unopened_text};
 ghost use Rattle.xl_heartbeat.specs.Bulletins.{is_due as is_due_of, NotesIf, Shows, Tells, TellsEnd, TellsUnopened};
 
@@ -41,33 +42,31 @@ impl<D: Board> Bulletin<D> {
         requires moment { now ≤ greatest_millis }
         ensures { Tells D.show_gives status.now now self.old self.new }
     {
-        self.hearing.note(status);
+        self.show(status, None);
         self.due = now + EVERY;
-        show_status(
-            self.alloc,
-            &mut self.board,
-            &self.profile,
-            &self.hearing,
-            status,
-            self.look,
-            None,
-        );
     }
 
     /// Tells how the node was at its end, and how that came, once its core is at rest.
     pub fn tell_end(&mut self, status: &NodeStatus, ended: Status)
         ensures { TellsEnd D.show_gives status.now ended self.old self.new }
     {
+        self.show(status, Some(ended));
+    }
+
+    /// Shows the text of a node that runs, or that has ended so, if there is memory for it.
+    fn show(&mut self, status: &NodeStatus, ended: Option<Status>)
+        ensures profile { self.new.profile ≡ self.old.profile }
+        ensures hearing { self.new.hearing ≡ after_status self.old.hearing status.now }
+        ensures due { self.new.due ≡ self.old.due }
+        ensures look { self.new.look ≡ self.old.look }
+        ensures board { Shows D.show_gives
+            (status_text self.old.profile status.now self.new.hearing self.old.look ended) self.old.board self.new.board }
+    {
         self.hearing.note(status);
-        show_status(
-            self.alloc,
-            &mut self.board,
-            &self.profile,
-            &self.hearing,
-            status,
-            self.look,
-            Some(ended),
-        );
+        let (profile, hearing) = (&self.profile, &self.hearing);
+        if let Ok(text) = text_of(self.alloc, profile, hearing, status, self.look, ended) {
+            let _ = self.board.show(text.as_bytes());
+        }
     }
 
     /// Tells how a node ended whose core was never opened, which it should have been when the first text was due.
@@ -96,23 +95,6 @@ fn note<D>(bulletin: &mut Option<Bulletin<D>>, look: Look)
     match bulletin {
         Some(bulletin) => bulletin.look = Some(look),
         None => {}
-    }
-}
-
-/// Shows the text of a node that runs, or that has ended so, if there is memory for it.
-fn show_status<D: Board>(
-    alloc: Global,
-    board: &mut D,
-    profile: &Profile,
-    hearing: &Hearing,
-    status: &NodeStatus,
-    look: Option<Look>,
-    ended: Option<Status>,
-)
-    ensures { Shows D.show_gives (status_text profile.now status.now hearing.now look ended) board.old board.new }
-{
-    if let Ok(text) = text_of(alloc, profile, hearing, status, look, ended) {
-        let _ = board.show(text.as_bytes());
     }
 }
 

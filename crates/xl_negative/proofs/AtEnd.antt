@@ -43,13 +43,9 @@ module _ {H : Type 0} (keeping : Keeping H) where
       added_finds next text bytes (answer_in next.running bytes)
 
   outcome_finds : (s : Writing H) (text : List ℕ) (o : Outcome) → FindsNothing (after_outcome keeping s text o)
-  outcome_finds s text (outcome.Switched i seq id) = tt
-  outcome_finds s text (outcome.Built i seq id issued) = tt
-  outcome_finds s text (outcome.Refused i why) = tt
   outcome_finds s text (outcome.Full i seq id) =
       over_finds s text i (change_at keeping (seat_at keeping s.seats i) i (ledgers_at s.running.world i) seq id)
-  outcome_finds s text (outcome.Preferred i ledger) = tt
-  outcome_finds s text (outcome.Heard i member id) = tt
+  outcome_finds s text other = tt
 
   outcomes_find : (os : List Outcome) (s : Writing H) (text : List ℕ) → FindsNothing (after_outcomes keeping s text os)
   outcomes_find [] s text = tt
@@ -58,14 +54,8 @@ module _ {H : Type 0} (keeping : Keeping H) where
       (outcome_finds s text o)
 
   line_finds : (s : Writing H) (text : List ℕ) (l : Line) → FindsNothing (after_line keeping s text l)
-  line_finds s text (line.Limit limit) = tt
-  line_finds s text (line.Speak version) = tt
-  line_finds s text (line.Node me list validating) = tt
-  line_finds s text (line.Liar me) = tt
-  line_finds s text (line.Name name id) = tt
-  line_finds s text (line.Ledger name parent header) = tt
-  line_finds s text (line.At at) = tt
   line_finds s text (line.Event e) = outcomes_find (outcomes (world_of s.running) e) (after_event keeping s e) text
+  line_finds s text other = tt
 
   answer_finds : (s : Writing H) (bytes : List ℕ) (ended : Bool) (a : LineAnswer) → FindsNothing (after_answer keeping s bytes ended a)
   answer_finds s bytes ended (passes reading) = tt

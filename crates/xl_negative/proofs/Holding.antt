@@ -97,13 +97,7 @@ ran_copied r bytes ended a one names is taken after leads =
 -- what a line declares leaves what the reader knows
 declares_reading : (r : Running) (l : Line) → (declares r l).reading ≡ r.reading
 declares_reading r (line.Limit limit) = refl
-declares_reading r (line.Speak version) = refl
-declares_reading r (line.Node me list validating) = refl
-declares_reading r (line.Liar me) = refl
-declares_reading r (line.Name name id) = refl
-declares_reading r (line.Ledger name parent header) = refl
-declares_reading r (line.At at) = refl
-declares_reading r (line.Event e) = refl
+declares_reading r other = refl
 
 -- A CHANGE
 
@@ -234,13 +228,9 @@ module _ (i : ℕ) (full : TrustedList) (o : Option TrustedList) (lists : List I
       ]
 
   outcome_holds : (s : ByList) (text : List ℕ) (x : Outcome) → Holds i full o lists before text s → AfterStep (Holds i full o lists before) (after_outcome list_keeping s text x)
-  outcome_holds s text (outcome.Switched k seq id) hold = hold
-  outcome_holds s text (outcome.Built k seq id issued) hold = hold
-  outcome_holds s text (outcome.Refused k why) hold = hold
   outcome_holds s text (outcome.Full k seq id) hold =
       over_holds s text k (change_at list_keeping (seat_at list_keeping s.seats k) k (ledgers_at s.running.world k) seq id) hold (changes s hold.good k seq id)
-  outcome_holds s text (outcome.Preferred k ledger) hold = hold
-  outcome_holds s text (outcome.Heard k member id) hold = hold
+  outcome_holds s text other hold = hold
 
   then_holds : (further : ByList → List ℕ → Step ByList) → ((s : ByList) (text : List ℕ) → Holds i full o lists before text s → AfterStep (Holds i full o lists before) (further s text)) →
       (step : Step ByList) → AfterStep (Holds i full o lists before) step → AfterStep (Holds i full o lists before) (and_then further step)
@@ -277,21 +267,8 @@ module _ (i : ℕ) (most : i ≤ 64) (full : TrustedList) where
       (subst IsValid its valid, inl its)
 
   given_by : (seats : List ListSeat) → AreLawful seats → (w : What) → IsPlausible w → HasOnly full (seat_at list_keeping (after_what list_keeping seats w) i).full → IfListed (IsOf i full) w
-  given_by seats are (what.Ask ask) plausible only = tt
-  given_by seats are what.Timers plausible only = tt
-  given_by seats are (what.Submit node tx) plausible only = tt
-  given_by seats are (what.Deliver place) plausible only = tt
-  given_by seats are what.All plausible only = tt
-  given_by seats are what.Drop plausible only = tt
-  given_by seats are (what.Greet node peer) plausible only = tt
-  given_by seats are (what.Restart node) plausible only = tt
-  given_by seats are (what.Cut new ask) plausible only = tt
-  given_by seats are (what.Fail new ask) plausible only = tt
   given_by seats are (what.List node list) plausible only = given seats are node list plausible only
-  given_by seats are (what.Lie from to lie) plausible only = tt
-  given_by seats are (what.Raw to bytes) plausible only = tt
-  given_by seats are (what.Prefer node) plausible only = tt
-  given_by seats are (what.Heard node) plausible only = tt
+  given_by seats are other plausible only = tt
 
   -- a declaration that leaves the seats
   declares_holds : (before : Running) (names : List Named) (s : ByList) (text : List ℕ) (l : Line) → IsGood s → Declares names l → IfDeclared (IsOf i full) l → Ran before text (declares s.running l) →
@@ -308,17 +285,11 @@ module _ (i : ℕ) (most : i ≤ 64) (full : TrustedList) where
 
   line_holds : (before : Running) (names : List Named) (s : ByList) (text : List ℕ) (l : Line) → IsGood s → Declares names l → Ran before text (takes s.running l) →
       AfterStep (Held i full (world_of s.running).lists before) (after_line list_keeping s text l)
-  line_holds before names s text (line.Limit limit) good is ran = declares_holds before names s text (line.Limit limit) good is tt ran
-  line_holds before names s text (line.Speak version) good is ran = declares_holds before names s text (line.Speak version) good is tt ran
   line_holds before names s text (line.Node me list validating) good is ran = record {
     ran = ran;
     good = record { sound = declares_sound s.running names (line.Node me list validating) is good.sound; seats = listed_lawful s.seats good.seats me list is.list; names = good.names };
     lists = λ only has. declared_lists (IsOf i full) s.running (line.Node me list validating) (given s.seats good.seats me list is.list only) has;
   }
-  line_holds before names s text (line.Liar me) good is ran = declares_holds before names s text (line.Liar me) good is tt ran
-  line_holds before names s text (line.Name name id) good is ran = declares_holds before names s text (line.Name name id) good is tt ran
-  line_holds before names s text (line.Ledger name parent header) good is ran = declares_holds before names s text (line.Ledger name parent header) good is tt ran
-  line_holds before names s text (line.At at) good is ran = declares_holds before names s text (line.At at) good is tt ran
   line_holds before names s text (line.Event e) good is ran =
       let heard : List ListSeat = hears list_keeping s.seats (heard_at (world_of s.running) e) in
       let are : AreLawful heard = hears_lawful (heard_at (world_of s.running) e) s.seats good.seats in
@@ -332,6 +303,7 @@ module _ (i : ℕ) (most : i ≤ 64) (full : TrustedList) where
         full = refl;
         lists = λ only has. event_lists (IsOf i full) (world_of s.running) e (given_by heard are e.what is only) has;
       }))
+  line_holds before names s text other good is ran = declares_holds before names s text other good is tt ran
 
   pub answer_holds : (s : ByList) (bytes : List ℕ) (ended : Bool) (a : LineAnswer) → IsOneLine bytes → IsGood s → AnswerDeclares s.running.reading.names a → AnswerNames a → answer_in s.running bytes ≡ a →
       AfterStep (Held i full (world_of s.running).lists s.running) (after_answer list_keeping s bytes ended a)

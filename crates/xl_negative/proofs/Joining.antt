@@ -80,13 +80,9 @@ report_alike text i seq id r n ps qs stand =
     (over_alike r n ps qs stand text i (change_at ring_keeping (seat_at ring_keeping ps i) i (ledgers_at r.world i) seq id))
 
 outcome_alike : (p : Writing Places) (q : Writing (List SaidLedger)) (text : List ℕ) (o : Outcome) → Like p q → AreAlike Like (after_outcome ring_keeping p text o) (after_outcome list_keeping q text o)
-outcome_alike p q text (outcome.Switched i seq id) like = (refl, like)
-outcome_alike p q text (outcome.Built i seq id issued) like = (refl, like)
-outcome_alike p q text (outcome.Refused i why) like = (refl, like)
 outcome_alike p q text (outcome.Full i seq id) like =
     alike_by (λ (x : Writing Places) (y : Writing (List SaidLedger)). AreAlike Like (after_report ring_keeping x text i seq id) (after_report list_keeping y text i seq id)) (report_alike text i seq id) p q like
-outcome_alike p q text (outcome.Preferred i ledger) like = (refl, like)
-outcome_alike p q text (outcome.Heard i member id) like = (refl, like)
+outcome_alike p q text other like = (refl, like)
 
 outcomes_alike : (os : List Outcome) (p : Writing Places) (q : Writing (List SaidLedger)) (text : List ℕ) → Like p q → AreAlike Like (after_outcomes ring_keeping p text os) (after_outcomes list_keeping q text os)
 outcomes_alike [] p q text like = (refl, like)
@@ -96,17 +92,12 @@ outcomes_alike (o ∷ os) p q text like =
 
 line_alike : (r : Running) (n : ℕ) (ps : List (Seat Places)) (qs : List (Seat (List SaidLedger))) → AllStandFor ps qs → (text : List ℕ) (l : Line) →
     AreAlike Like (after_line ring_keeping (state r n ps) text l) (after_line list_keeping (state r n qs) text l)
-line_alike r n ps qs stand text (line.Limit limit) = (refl, record { running = refl; lines = refl; seats = stand })
-line_alike r n ps qs stand text (line.Speak version) = (refl, record { running = refl; lines = refl; seats = stand })
 line_alike r n ps qs stand text (line.Node me list validating) = (refl, record { running = refl; lines = refl; seats = listing_stand ps qs stand me list })
-line_alike r n ps qs stand text (line.Liar me) = (refl, record { running = refl; lines = refl; seats = stand })
-line_alike r n ps qs stand text (line.Name name id) = (refl, record { running = refl; lines = refl; seats = stand })
-line_alike r n ps qs stand text (line.Ledger name parent header) = (refl, record { running = refl; lines = refl; seats = stand })
-line_alike r n ps qs stand text (line.At at) = (refl, record { running = refl; lines = refl; seats = stand })
 line_alike r n ps qs stand text (line.Event e) =
     let hs = heard_at (world_of r) e in
     outcomes_alike (outcomes (world_of r) e) (after_event ring_keeping (state r n ps) e) (after_event list_keeping (state r n qs) e) text
     (record { running = refl; lines = refl; seats = what_stand (hears ring_keeping ps hs) (hears list_keeping qs hs) (hears_stand hs ps qs stand) e.what })
+line_alike r n ps qs stand text other = (refl, record { running = refl; lines = refl; seats = stand })
 
 answer_alike : (bytes : List ℕ) (has_ended : Bool) (a : LineAnswer) (r : Running) (n : ℕ) (ps : List (Seat Places)) (qs : List (Seat (List SaidLedger))) → AllStandFor ps qs →
     AreAlike Like (after_answer ring_keeping (state r n ps) bytes has_ended a) (after_answer list_keeping (state r n qs) bytes has_ended a)

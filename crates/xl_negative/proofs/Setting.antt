@@ -40,12 +40,7 @@ IfDeclared P l = Unit {0}
 module _ (P : ℕ → TrustedList → Type 0) where
   set_has : (i : ℕ) (list : TrustedList) (a : Answer) → P i list → All (OfInForce P) (option_to_list (list_set i list a))
   set_has i list (answer.Refused why) has = All-nil (OfInForce P)
-  set_has i list (answer.Took taken) has = All-cons (OfInForce P) (record { node = i; list = list }) [] has (All-nil (OfInForce P))
-  set_has i list (answer.Beats beat) has = All-cons (OfInForce P) (record { node = i; list = list }) [] has (All-nil (OfInForce P))
-  set_has i list answer.Done has = All-cons (OfInForce P) (record { node = i; list = list }) [] has (All-nil (OfInForce P))
-  set_has i list (answer.Gave to frames) has = All-cons (OfInForce P) (record { node = i; list = list }) [] has (All-nil (OfInForce P))
-  set_has i list (answer.Handed reports) has = All-cons (OfInForce P) (record { node = i; list = list }) [] has (All-nil (OfInForce P))
-  set_has i list (answer.Told stopped) has = All-cons (OfInForce P) (record { node = i; list = list }) [] has (All-nil (OfInForce P))
+  set_has i list other has = All-cons (OfInForce P) (record { node = i; list = list }) [] has (All-nil (OfInForce P))
 
   relisted : (w : World) (at node : ℕ) (list : TrustedList) → P node list → All (OfInForce P) w.lists → All (OfInForce P) (run w (steps_at w at (what.List node list))).lists
   relisted w at node list has all =
@@ -104,7 +99,4 @@ module _ (P : ℕ → TrustedList → Type 0) where
   declared_lists r (line.Node me list validating) has all =
       more_plan r (record { me = me; list = list; validating = validating; moment = r.reading.now }) has r.world refl all
   declared_lists r (line.Liar me) has all = same_plan r r.shared (r.liars ++ me ∷ []) r.world refl all
-  declared_lists r (line.Name name id) has all = all
-  declared_lists r (line.Ledger name parent header) has all = all
-  declared_lists r (line.At at) has all = all
-  declared_lists r (line.Event e) has all = all
+  declared_lists r other has all = all

@@ -116,21 +116,10 @@ module _ (ps : List (Seat Places)) (qs : List (Seat (List SaidLedger))) (stand :
   leaving_stand i negative = set_stand ps qs stand (i - 1) _ _ (leaving_stands (seat_at ring_keeping ps i) (seat_at list_keeping qs i) (seat_stands i) negative)
 
   pub what_stand : (w : What) → AllStandFor (after_what ring_keeping ps w) (after_what list_keeping qs w)
-  what_stand (what.Ask ask) = stand
-  what_stand what.Timers = stand
-  what_stand (what.Submit node tx) = stand
-  what_stand (what.Deliver place) = stand
-  what_stand what.All = stand
-  what_stand what.Drop = stand
-  what_stand (what.Greet node peer) = stand
   what_stand (what.Restart node) = forgetting_stand node
   what_stand (what.Cut new ask) = forgetting_stand (node_asked ask)
-  what_stand (what.Fail new ask) = stand
   what_stand (what.List node list) = listing_stand node list
-  what_stand (what.Lie from to lie) = stand
-  what_stand (what.Raw to bytes) = stand
-  what_stand (what.Prefer node) = stand
-  what_stand (what.Heard node) = stand
+  what_stand other = stand
 
 pub hears_stand : (hs : List Heard) (ps : List (Seat Places)) (qs : List (Seat (List SaidLedger))) → AllStandFor ps qs → AllStandFor (hears ring_keeping ps hs) (hears list_keeping qs hs)
 hears_stand [] ps qs stand = stand

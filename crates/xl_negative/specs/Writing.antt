@@ -160,28 +160,16 @@ after_event keeping s e = record s {
 
 -- what a line of the input declares; a node has the list that it declares
 abbrev pub after_declaration : {H : Type 0} → Keeping H → Writing H → Line → Writing H
-after_declaration keeping s (line.Limit limit) = with_running s (declares s.running (line.Limit limit))
-after_declaration keeping s (line.Speak version) = with_running s (declares s.running (line.Speak version))
 after_declaration keeping s (line.Node me list validating) =
     record (with_running s (declares s.running (line.Node me list validating))) {
       seats = with_listing keeping s.seats me list;
     }
-after_declaration keeping s (line.Liar me) = with_running s (declares s.running (line.Liar me))
-after_declaration keeping s (line.Name name id) = with_running s (declares s.running (line.Name name id))
-after_declaration keeping s (line.Ledger name parent header) = with_running s (declares s.running (line.Ledger name parent header))
-after_declaration keeping s (line.At at) = with_running s (declares s.running (line.At at))
-after_declaration keeping s (line.Event e) = with_running s (declares s.running (line.Event e))
+after_declaration keeping s other = with_running s (declares s.running other)
 
 -- what a line of the input says is taken in, behind the text so far
 abbrev pub after_line : {H : Type 0} → Keeping H → Writing H → List ℕ → Line → Step (Writing H)
-after_line keeping s text (line.Limit limit) = goes_on text (after_declaration keeping s (line.Limit limit))
-after_line keeping s text (line.Speak version) = goes_on text (after_declaration keeping s (line.Speak version))
-after_line keeping s text (line.Node me list validating) = goes_on text (after_declaration keeping s (line.Node me list validating))
-after_line keeping s text (line.Liar me) = goes_on text (after_declaration keeping s (line.Liar me))
-after_line keeping s text (line.Name name id) = goes_on text (after_declaration keeping s (line.Name name id))
-after_line keeping s text (line.Ledger name parent header) = goes_on text (after_declaration keeping s (line.Ledger name parent header))
-after_line keeping s text (line.At at) = goes_on text (after_declaration keeping s (line.At at))
 after_line keeping s text (line.Event e) = after_outcomes keeping (after_event keeping s e) text (outcomes (world_of s.running) e)
+after_line keeping s text other = goes_on text (after_declaration keeping s other)
 
 -- one more line of the input was read
 abbrev pub with_line_counted : {H : Type 0} → Writing H → Reading → Writing H

@@ -3,33 +3,16 @@ use Rattle.std.proofs.Common.{◌<◌, ◌++◌, length, length-append, arith, �
 use Rattle.std.specs.Prelude.{◌==◌, ◌+◌, codes, decimal}
 use Rattle.std.proofs.lemmas.Bool.{cond_both}
 use Rattle.xl_lines.specs.declared.machine.Verdict.TheVariants.{Refused as IsRefused}
-use Rattle.xl_lines.specs.Causes.{RefusesAloud, EndsAloud}
+use Rattle.xl_lines.specs.Causes.{EndsAloud}
 use Rattle.xl_lines.specs.Rules.{closes}
-use Rattle.xl_sched.specs.declared.line.Line.{Line}
-use Rattle.xl_sched.specs.declared.line.Line.TheVariants as line
 use Rattle.xl_sched.specs.declared.refusal.SchedRefusal.TheVariants.{Header}
-use Rattle.xl_sched.specs.Answers.{LineAnswer, passes, gives, refuses}
 use Rattle.xl_world.specs.Forks.{first_fork}
 use Rattle.xl_running.specs.Texts.{bad_line}
 use Rattle.xl_replay.specs.Texts.{short_lines, forged_line, agreement_line, end_lines}
-use Rattle.xl_running.specs.Running.{Running, answer_in, beyond, knows, world_of}
+use Rattle.xl_running.specs.Running.{Running, answer_in, beyond, world_of}
 use Rattle.xl_running.proofs.Aloud.{bad_some, line_some}
-use Rattle.xl_replay.specs.Replays.{after_line, after_answer, verdict_of, told_at_end, rules}
-
-line_aloud : (r : Running) (l : Line) → RefusesAloud (after_line r l)
-line_aloud r (line.Limit limit) = tt
-line_aloud r (line.Speak version) = tt
-line_aloud r (line.Node me list validating) = tt
-line_aloud r (line.Liar me) = tt
-line_aloud r (line.Name name id) = tt
-line_aloud r (line.Ledger name parent header) = tt
-line_aloud r (line.At at) = tt
-line_aloud r (line.Event e) = tt
-
-answer_aloud : (r : Running) (a : LineAnswer) → RefusesAloud (after_answer r a)
-answer_aloud r (passes reading) = tt
-answer_aloud r (gives l reading) = line_aloud (knows r reading) l
-answer_aloud r (refuses why) = bad_some (r.reading.lines + 1) why
+use Rattle.xl_running.proofs.Steps.{answer_aloud}
+use Rattle.xl_replay.specs.Replays.{after_happening, verdict_of, told_at_end, rules}
 
 -- of three texts the second is not empty
 middle_some : (shorts : List ℕ) (n : ℕ) (last : List ℕ) → 0 < length (shorts ++ forged_line n ++ last)
@@ -46,7 +29,7 @@ ending_some r =
 
 pub ends_aloud : EndsAloud rules
 ends_aloud = record {
-  step = λ r bytes _. answer_aloud r (answer_in r bytes);
+  step = λ r bytes _. answer_aloud (λ r. r) after_happening (λ r e. tt) r (answer_in r bytes);
   overrun = λ r overrun. bad_some (r.reading.lines + 1) (beyond overrun);
   closing = ending_some;
 }

@@ -66,9 +66,7 @@ switched_other names node seq id n = record {
 
 how_one_line : (how : Issued) → IsOneLine (how_text how)
 how_one_line issued.Full = refl
-how_one_line issued.Partial = refl
-how_one_line issued.Silent = refl
-how_one_line (issued.Refused why) = refl
+how_one_line other = refl
 
 built_other : (names : List Named) (node seq : ℕ) (id : _) (how : Issued) (n : ℕ) → IsOther unforged_line (outcome_line names n (Built node seq id how))
 built_other names node seq id how n = record {

@@ -26,7 +26,7 @@ use Rattle.xl_sched.specs.Answers.{LineAnswer, passes, gives, refuses}
 use Rattle.xl_sched.specs.Names.{id_named, id_of, id_written, is_letter, is_name, ledger_id_of, name_of}
 use Rattle.xl_sched.specs.Tokens.{shown_byte, shown_token}
 use Rattle.xl_world.specs.declared.outcome.Outcome.{Outcome}
-use Rattle.xl_world.specs.declared.outcome.Outcome.TheVariants.{Switched, Built, Refused, Full, Preferred, Heard}
+use Rattle.xl_world.specs.declared.outcome.Outcome.TheVariants.{Full}
 use Rattle.xl_world.specs.Forks.{Fork, first_fork}
 use Rattle.xl_running.specs.Running.{Running, answer_in, at_first, declares, knows, limits, world_of}
 use Rattle.xl_running.specs.Texts.{id_text, named_text, newline, space}
@@ -52,13 +52,7 @@ state_names within left r (l ∷ ls) are = state_names within (left - 1) (state_
 
     line_names : (known : Running) (l : Line) → AreNames known.reading.names → Keeps (after_line known l)
     line_names known (line.Limit limit) names = names
-    line_names known (line.Speak version) names = names
-    line_names known (line.Node me list validating) names = names
-    line_names known (line.Liar me) names = names
-    line_names known (line.Name name id) names = names
-    line_names known (line.Ledger name parent header) names = names
-    line_names known (line.At at) names = names
-    line_names known (line.Event e) names = names
+    line_names known other names = names
 
     read_names : (a : LineAnswer) → AnswerNames a → Keeps (after_answer r a)
     read_names (passes reading) names = names
@@ -195,11 +189,6 @@ agreement_unlike names (Some fork) begins = omega (arith, begins.1)
 -- the outcome of a `full` line
 outcome_says : (names before : List Named) (n : ℕ) (o : Outcome) (os : List Outcome) (line : List ℕ) → AreNames names → Extends before names → Contains os o →
     outcome_line before n o ≡ line ++ newline → BeginsFull (outcome_line before n o) → SaysOneOf names os line
-outcome_says names before n (Switched node seq id) os line are extends has is begins = absurd (omega (arith, begins.0))
-outcome_says names before n (Built node seq id how) os line are extends has is begins = absurd (omega (arith, begins.0))
-outcome_says names before n (Refused node why) os line are extends has is begins = absurd (omega (arith, begins.0))
-outcome_says names before n (Preferred node ledger) os line are extends has is begins = absurd (omega (arith, begins.0))
-outcome_says names before n (Heard node member id) os line are extends has is begins = absurd (omega (arith, begins.0))
 outcome_says names before n (Full node seq id) os line are extends has is begins = record {
   node = node;
   seq = seq;
@@ -211,6 +200,7 @@ outcome_says names before n (Full node seq id) os line are extends has is begins
     ledger = token_says names before id are extends is_id;
   };
 }
+outcome_says names before n other os line are extends has is begins = absurd (omega (arith, begins.0))
 
 contains_map : {X Y : Type 0} (f : X → Y) (xs : List X) (x : X) → Contains xs x → Contains (map f xs) (f x)
 contains_map f [] x has = absurd (omega (arith, has.1))

@@ -49,7 +49,7 @@ use Rattle.xl_world.proofs.Keeping.{core_keeps}
 use Rattle.xl_running.specs.Texts.{bad_line}
 use Rattle.xl_replay.specs.Texts.{outcome_line, outcome_lines, end_lines}
 use Rattle.xl_running.specs.Running.{Running, beyond, declares, knows, world_of}
-use Rattle.xl_replay.specs.Replays.{silent, after_line, after_answer, verdict_of, told_at_end, rules}
+use Rattle.xl_replay.specs.Replays.{after_line, after_answer, verdict_of, told_at_end, rules}
 use Rattle.xl_replay.specs.Headlines.{Announced, announced_line, Extends, is_full, full_of, outcomes_in, state_after, state_from, IsRefusal}
 use Rattle.xl_running.proofs.Declaring.{Declares, AnswerDeclares, reading_declares}
 use Rattle.xl_running.proofs.Sounding.{IsSound, declares_reports, declares_sound, happens_sound, knows_sound}
@@ -78,26 +78,15 @@ adds_then w v u os ps x y = record {
 -- what is told of how a built ledger was validated, of a timer, and of an answer tells no report
 issued_told : (i : ℕ) (how : Issued) → filter is_full (told_of_issued i how) ≡ []
 issued_told i issued.Full = refl
-issued_told i issued.Partial = refl
-issued_told i issued.Silent = refl
-issued_told i (issued.Refused why) = refl
+issued_told i other = refl
 
 beat_told : (i : ℕ) (b : TimerAnswer) → filter is_full (told_of_beat i b) ≡ []
-beat_told i timer_answer.Nothing = refl
-beat_told i timer_answer.Closed = refl
-beat_told i timer_answer.Updated = refl
-beat_told i (timer_answer.Switched seq id) = refl
-beat_told i (timer_answer.NoRoom limit) = refl
 beat_told i (timer_answer.Built seq id moved_on how) = issued_told i how
+beat_told i other = refl
 
 answer_told : (i : ℕ) (a : Answer) → filter is_full (told_of_answer i a) ≡ []
-answer_told i (answer.Refused why) = refl
-answer_told i (answer.Took taken) = refl
 answer_told i (answer.Beats b) = beat_told i b
-answer_told i answer.Done = refl
-answer_told i (answer.Gave to frames) = refl
-answer_told i (answer.Handed reports) = refl
-answer_told i (answer.Told stopped) = refl
+answer_told i other = refl
 
 -- what is told of what arose is its report
 abbrev told_of_arisen : ℕ → Option Report → List Outcome
@@ -182,6 +171,10 @@ StepTells r (goes_on text next) = Tells r next text
 StepTells r (refuses_line text) = (n : ℕ) × (why : SchedRefusal) × (text ≡ bad_line n why)
 StepTells r (finds text) = ⊥
 
+-- a line that tells nothing
+abbrev silent : Running → Step Running
+silent r = goes_on [] r
+
 quiet_tells : (r next : Running) → IsSound next → Extends r.reading.names next.reading.names → (world_of next).reports ≡ (world_of r).reports → StepTells r (silent next)
 quiet_tells r next sound extends same = record {
   spoken = [];
@@ -207,15 +200,9 @@ AnswerExtends known (refuses why) = Unit {0}
 
 answer_extends : (reading : Reading) (r : Result (Option Line) SchedRefusal) → AnswerExtends reading (answer_to reading r)
 answer_extends reading (Err e) = tt
-answer_extends reading (Ok None) = extends_itself reading.names
-answer_extends reading (Ok (Some (line.Limit limit))) = extends_itself reading.names
-answer_extends reading (Ok (Some (line.Node me list validating))) = extends_itself reading.names
-answer_extends reading (Ok (Some (line.Liar me))) = extends_itself reading.names
 answer_extends reading (Ok (Some (line.Name name id))) = (record { name = name; id = id; header = None } ∷ [], refl)
 answer_extends reading (Ok (Some (line.Ledger name parent header))) = (record { name = name; id = (header_id header).0; header = Some header } ∷ [], refl)
-answer_extends reading (Ok (Some (line.At at))) = extends_itself reading.names
-answer_extends reading (Ok (Some (line.Speak version))) = extends_itself reading.names
-answer_extends reading (Ok (Some (line.Event e))) = extends_itself reading.names
+answer_extends reading other = extends_itself reading.names
 
 reading_extends : (reading : Reading) (sent : ℕ) (bytes : List ℕ) → AnswerExtends reading (reading_of reading sent bytes)
 reading_extends reading sent bytes = answer_extends reading (bounded_line reading sent bytes)
@@ -248,23 +235,11 @@ module _ (r : Running) (reading : Reading) (sound : IsSound r) (extends : Extend
     where
       extends_as : (l : Line) → Extends r.reading.names (declares known l).reading.names
       extends_as (line.Limit limit) = extends
-      extends_as (line.Speak version) = extends
-      extends_as (line.Node me list validating) = extends
-      extends_as (line.Liar me) = extends
-      extends_as (line.Name name id) = extends
-      extends_as (line.Ledger name parent header) = extends
-      extends_as (line.At at) = extends
-      extends_as (line.Event e) = extends
+      extends_as other = extends
 
   line_tells : (l : Line) → Declares r.reading.names l → StepTells r (after_line known l)
-  line_tells (line.Limit limit) declared = declared_tells (line.Limit limit) declared
-  line_tells (line.Speak version) declared = declared_tells (line.Speak version) declared
-  line_tells (line.Node me list validating) declared = declared_tells (line.Node me list validating) declared
-  line_tells (line.Liar me) declared = declared_tells (line.Liar me) declared
-  line_tells (line.Name name id) declared = declared_tells (line.Name name id) declared
-  line_tells (line.Ledger name parent header) declared = declared_tells (line.Ledger name parent header) declared
-  line_tells (line.At at) declared = declared_tells (line.At at) declared
   line_tells (line.Event e) declared = event_tells e declared
+  line_tells other declared = declared_tells other declared
 
   passed_tells : StepTells r (silent known)
   passed_tells = quiet_tells r known (knows_sound r reading sound) extends refl

@@ -2,41 +2,32 @@
 use Rattle.std.specs.Prelude.{ℕ, ◌+◌, ◌==◌, List, [], Option, Some, None, if◌then◌else◌}
 use Rattle.xl_lines.specs.declared.machine.Verdict.{Verdict}
 use Rattle.xl_lines.specs.declared.machine.Verdict.TheVariants as verdict
-use Rattle.xl_lines.specs.Rules.{Rules, Step, goes_on, refuses as refuses_line, Told, closes}
+use Rattle.xl_lines.specs.Rules.{Rules, Step, goes_on, Told, closes}
 use Rattle.xl_lines.specs.Told.{told_of}
 use Rattle.xl_lines.specs.Soon.{told_soon}
 use Rattle.xl_texts.specs.Promises.{Promise, on, always}
+use Rattle.xl_sched.specs.declared.event.Event.{Event}
 use Rattle.xl_sched.specs.declared.line.Line.{Line}
-use Rattle.xl_sched.specs.declared.line.Line.TheVariants as line
 use Rattle.xl_sched.specs.declared.refusal.SchedRefusal.TheVariants.{Header}
-use Rattle.xl_sched.specs.Answers.{LineAnswer, passes, gives, refuses}
+use Rattle.xl_sched.specs.Answers.{LineAnswer}
 use Rattle.xl_world.specs.Forks.{Fork, first_fork}
 use Rattle.xl_world.specs.Schedule.{outcomes}
-use Rattle.xl_running.specs.Running.{Running, answer_in, at_first, beyond, declares, happens, knows, limits, world_of}
+use Rattle.xl_running.specs.Running.{Running, answer_in, at_first, beyond, happens, limits, world_of}
+use Rattle.xl_running.specs.Stepping.{after_answer as after_answer_in, after_line as after_line_in}
 use Rattle.xl_running.specs.Texts.{bad_line}
 use Rattle.xl_replay.specs.Texts.{outcome_lines, end_lines}
 
--- a line that tells nothing
-abbrev pub silent : Running → Step Running
-silent r = goes_on [] r
+-- an event is one more step of the world, and what came of it is told
+abbrev pub after_happening : Running → Event → Step Running
+after_happening r e = goes_on (outcome_lines r.reading.names r.reading.lines (outcomes (world_of r) e)) (happens r e)
 
--- what a line says that was read; what came of an event is told
+-- what a line says that was read
 abbrev pub after_line : Running → Line → Step Running
-after_line r (line.Limit limit) = silent (declares r (line.Limit limit))
-after_line r (line.Speak version) = silent (declares r (line.Speak version))
-after_line r (line.Node me list validating) = silent (declares r (line.Node me list validating))
-after_line r (line.Liar me) = silent (declares r (line.Liar me))
-after_line r (line.Name name id) = silent r
-after_line r (line.Ledger name parent header) = silent r
-after_line r (line.At at) = silent r
-after_line r (line.Event e) =
-    goes_on (outcome_lines r.reading.names r.reading.lines (outcomes (world_of r) e)) (happens r e)
+after_line r l = after_line_in (λ r. r) after_happening r l
 
 -- what is written of a line as it was read
 abbrev pub after_answer : Running → LineAnswer → Step Running
-after_answer r (passes reading) = silent (knows r reading)
-after_answer r (gives line reading) = after_line (knows r reading) line
-after_answer r (refuses refusal) = refuses_line (bad_line (r.reading.lines + 1) refusal)
+after_answer r answer = after_answer_in (λ r. r) after_happening r answer
 
 -- a text with a fork says so
 abbrev pub verdict_of : Option Fork → Verdict

@@ -10,33 +10,20 @@ use Rattle.xl_lines.specs.Rules.{closes, refuses as refuses_line}
 use Rattle.xl_running.specs.Running.{Running, answer_in, beyond, knows}
 use Rattle.xl_running.specs.Texts.{bad_line}
 use Rattle.xl_running.proofs.Aloud.{bad_some, line_some}
+use Rattle.xl_running.proofs.Steps as steps
 use Rattle.xl_sched.specs.declared.favor.Favor.{Favor}
-use Rattle.xl_sched.specs.declared.line.Line.{Line}
-use Rattle.xl_sched.specs.declared.line.Line.TheVariants as line
 use Rattle.xl_sched.specs.declared.refusal.SchedRefusal.{SchedRefusal}
 use Rattle.xl_sched.specs.declared.refusal.SchedRefusal.TheVariants.{Header, Limit}
-use Rattle.xl_sched.specs.Answers.{LineAnswer, passes, gives, refuses}
+use Rattle.xl_sched.specs.Answers.{LineAnswer}
 use Rattle.xl_sched.specs.Favors.{after_favor, favor_line}
 use Rattle.xl_voting.specs.Tallying.{Tallying, tally_keeping}
 use Rattle.xl_voting.specs.Texts.{count_line}
-use Rattle.xl_voting.specs.Voting.{after_answer, after_favored, after_line, after_vote, told_at_end, rules, silent}
+use Rattle.xl_voting.specs.Voting.{after_answer, after_favored, after_happening, after_vote, told_at_end, rules, silent, with_votes}
 
 -- NOTHING IS FOUND
 
-line_finds : (r : Running) (t : Tallying) (l : Line) → FindsNothing (after_line tally_keeping r t l)
-line_finds r t (line.Limit limit) = tt
-line_finds r t (line.Speak version) = tt
-line_finds r t (line.Node me list validating) = tt
-line_finds r t (line.Liar me) = tt
-line_finds r t (line.Name name id) = tt
-line_finds r t (line.Ledger name parent header) = tt
-line_finds r t (line.At at) = tt
-line_finds r t (line.Event e) = tt
-
 answer_finds : (r : Running) (t : Tallying) (a : LineAnswer) → FindsNothing (after_answer tally_keeping r t a)
-answer_finds r t (passes reading) = tt
-answer_finds r t (gives l reading) = line_finds (knows r reading) t l
-answer_finds r t (refuses why) = tt
+answer_finds r t a = steps.answer_finds (with_votes t) (λ r e. after_happening tally_keeping r t e) (λ r e. tt) r a
 
 vote_finds : (r : Running) (t : Tallying) (f : Favor) → FindsNothing (after_vote tally_keeping r t f)
 vote_finds r t f =
@@ -59,20 +46,8 @@ finds_at_end = record {
 
 -- A LAST TEXT
 
-line_aloud : (r : Running) (t : Tallying) (l : Line) → RefusesAloud (after_line tally_keeping r t l)
-line_aloud r t (line.Limit limit) = tt
-line_aloud r t (line.Speak version) = tt
-line_aloud r t (line.Node me list validating) = tt
-line_aloud r t (line.Liar me) = tt
-line_aloud r t (line.Name name id) = tt
-line_aloud r t (line.Ledger name parent header) = tt
-line_aloud r t (line.At at) = tt
-line_aloud r t (line.Event e) = tt
-
 answer_aloud : (r : Running) (t : Tallying) (a : LineAnswer) → RefusesAloud (after_answer tally_keeping r t a)
-answer_aloud r t (passes reading) = tt
-answer_aloud r t (gives l reading) = line_aloud (knows r reading) t l
-answer_aloud r t (refuses why) = bad_some (r.reading.lines + 1) why
+answer_aloud r t a = steps.answer_aloud (with_votes t) (λ r e. after_happening tally_keeping r t e) (λ r e. tt) r a
 
 vote_aloud : (r : Running) (t : Tallying) (f : Favor) → RefusesAloud (after_vote tally_keeping r t f)
 vote_aloud r t f =

@@ -62,11 +62,8 @@ parts_read (Ok m) (Ok f) (Err e) member = tt
 parts_read (Ok m) (Ok f) (Ok is) member = member
 
 favor_read : (reading : Reading) (arguments : List (List ℕ)) → IfOk (favor_of reading arguments) Votes
-favor_read reading [] = tt
-favor_read reading (a ∷ []) = tt
-favor_read reading (a ∷ b ∷ []) = tt
 favor_read reading (a ∷ b ∷ c ∷ []) = parts_read (voter_of reading a) (number_of b) (favored_of reading.names c) (voter_read reading a (member_of a) (member_read a))
-favor_read reading (a ∷ b ∷ c ∷ d ∷ rest) = tt
+favor_read reading other = tt
 
 abbrev IfVotes : Result (Option Favor) SchedRefusal → Type 0
 IfVotes r = IfOk r (λ o. IfSome o Votes)
@@ -98,16 +95,10 @@ module _ (r : Running) (t : Tallying) (l : Listing) (is : StandsFor t l) where
   silent_alike next sound = (refl, record { running = refl; sound = sound; votes = is })
 
   line_alike : IsSound r → (names : List Named) (read : Line) → Declares names read → AreAlike Like (after_line tally_keeping r t read) (after_line list_keeping r l read)
-  line_alike sound names (line.Limit limit) declared = silent_alike _ (declares_sound r names (line.Limit limit) declared sound)
-  line_alike sound names (line.Speak version) declared = silent_alike _ (declares_sound r names (line.Speak version) declared sound)
-  line_alike sound names (line.Node me list validating) declared = silent_alike _ (declares_sound r names (line.Node me list validating) declared sound)
-  line_alike sound names (line.Liar me) declared = silent_alike _ (declares_sound r names (line.Liar me) declared sound)
-  line_alike sound names (line.Name name id) declared = silent_alike r sound
-  line_alike sound names (line.Ledger name parent header) declared = silent_alike r sound
-  line_alike sound names (line.At at) declared = silent_alike r sound
   line_alike sound names (line.Event e) declared =
       let same = event_same r.reading.names (world_of r) sound.is_run t l is e declared in
       (same.text, record { running = refl; sound = happens_sound r e declared sound; votes = same.votes })
+  line_alike sound names other declared = silent_alike _ (declares_sound r names other declared sound)
 
   vote_alike : IsSound r → (f : Favor) → IsMember f.member → AreAlike Like (after_vote tally_keeping r t f) (after_vote list_keeping r l f)
   vote_alike sound f member = by _ _ (ap (λ (n : ℕ). nat_lt most_amendments n) (as_many t l is f.member f.fee f.ids member))

@@ -11,7 +11,7 @@ use Rattle.xl_sched.specs.declared.event.What.TheVariants as what
 use Rattle.xl_sched.specs.declared.named.Named.{Named}
 use Rattle.xl_validations.specs.Rows.{current_of, is_full_of}
 use Rattle.xl_world.specs.declared.outcome.Outcome.{Outcome}
-use Rattle.xl_world.specs.declared.outcome.Outcome.TheVariants.{Switched, Built, Refused, Full, Preferred, Heard}
+use Rattle.xl_world.specs.declared.outcome.Outcome.TheVariants.{Full}
 use Rattle.xl_world.specs.declared.place.Place.{Place}
 use Rattle.xl_world.specs.Parts.{delivery_at, drop_at, parts_at, parts_of, timer_at}
 use Rattle.xl_world.specs.Plans.{up_from}
@@ -94,12 +94,8 @@ module _ (names : List Named) (t : Tallying) (l : Listing) (is : StandsFor t l) 
             core_same i s id c counting (is_due tally_keeping t i s) (is_due list_keeping l i s) (due_same i s counting.member)
 
     outcome_same : (o : Outcome) → SaysSame (outcome_said tally_keeping names w t o) (outcome_said list_keeping names w l o)
-    outcome_same (Switched node seq id) = silent_same t l is
-    outcome_same (Built node seq id issued) = silent_same t l is
-    outcome_same (Refused node refusal) = silent_same t l is
     outcome_same (Full node seq id) = report_same node seq id
-    outcome_same (Preferred node ledger) = silent_same t l is
-    outcome_same (Heard node member id) = silent_same t l is
+    outcome_same other = silent_same t l is
 
 -- ONE AFTER THE OTHER
 
@@ -147,19 +143,7 @@ parts_plausible w at what.All plausible =
     All-append Plausible (map (delivery_at at) (up_from (w.mark + 1) (length w.sent - w.mark))) (drop_at at ∷ []) (each_plausible (delivery_at at) (λ n. tt) (up_from (w.mark + 1) (length w.sent - w.mark)))
     (one_plausible (drop_at at) tt)
 parts_plausible w at what.Timers plausible = each_plausible (timer_at at) (λ n. tt) w.numbers
-parts_plausible w at (what.Ask ask) plausible = one_plausible _ plausible
-parts_plausible w at (what.Submit node tx) plausible = one_plausible _ plausible
-parts_plausible w at (what.Greet node peer) plausible = one_plausible _ plausible
-parts_plausible w at (what.Deliver place) plausible = one_plausible _ plausible
-parts_plausible w at what.Drop plausible = one_plausible _ plausible
-parts_plausible w at (what.Restart node) plausible = one_plausible _ plausible
-parts_plausible w at (what.Cut new ask) plausible = one_plausible _ plausible
-parts_plausible w at (what.Fail new ask) plausible = one_plausible _ plausible
-parts_plausible w at (what.Lie from to lie) plausible = one_plausible _ plausible
-parts_plausible w at (what.Raw to bytes) plausible = one_plausible _ plausible
-parts_plausible w at (what.Prefer node) plausible = one_plausible _ plausible
-parts_plausible w at (what.List node list) plausible = one_plausible _ plausible
-parts_plausible w at (what.Heard node) plausible = one_plausible _ plausible
+parts_plausible w at other plausible = one_plausible _ plausible
 
 pub event_same : (names : List Named) (w : World) → IsRun w → (t : Tallying) (l : Listing) → StandsFor t l → (e : Event) → IsPlausible e.what →
     SaysSame (event_said tally_keeping names w t e) (event_said list_keeping names w l e)

@@ -5,9 +5,9 @@ use Rattle.std.proofs.lemmas.Bool.{cond_both}
 use Rattle.std.proofs.lemmas.List.Elements.{All-append, All-cons, All-contains, All-head, All-map, All-nil, All-tail, All-weaker}
 use Rattle.xl_io.specs.Keepers.{may_hold}
 use Rattle.xl_lists.specs.Lists.{TrustedList, IsValid}
-use Rattle.xl_core.specs.Answers.{Answer, Refused, Took, Beats, Done, Gave, Handed, Told}
+use Rattle.xl_core.specs.Answers.{Answer, Refused}
 use Rattle.xl_core.specs.declared.event.CoreEvent.{CoreEvent}
-use Rattle.xl_core.specs.declared.event.CoreEvent.TheVariants.{Issue, Frame, Timer, Submit, Greet, Drain, Reports, Stop, Stopped, Relist}
+use Rattle.xl_core.specs.declared.event.CoreEvent.TheVariants.{Relist}
 use Rattle.xl_world.specs.declared.place.Fate.{Fate}
 use Rattle.xl_world.specs.declared.place.Place.{Place}
 use Rattle.xl_world.specs.declared.plan.InForce.{InForce}
@@ -32,12 +32,7 @@ one_set i list valid = All-cons Valid (at_node i list) [] valid (All-nil Valid)
 
 list_set-valid : (i : ℕ) (list : TrustedList) → IsValid list → (a : Answer) → All Valid (option_to_list (list_set i list a))
 list_set-valid i list valid (Refused why) = none_set
-list_set-valid i list valid (Took taken) = one_set i list valid
-list_set-valid i list valid (Beats beat) = one_set i list valid
-list_set-valid i list valid Done = one_set i list valid
-list_set-valid i list valid (Gave to frames) = one_set i list valid
-list_set-valid i list valid (Handed reports) = one_set i list valid
-list_set-valid i list valid (Told stopped) = one_set i list valid
+list_set-valid i list valid other = one_set i list valid
 
 set_by-valid : (i : ℕ) (e : CoreEvent) (a : Answer) → IsFitEvent e → All Valid (option_to_list (set_by i e a))
 set_by-valid i (Relist now list) a fit = list_set-valid i list fit a

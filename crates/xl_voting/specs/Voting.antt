@@ -5,15 +5,15 @@ use Rattle.xl_lines.specs.declared.machine.Verdict.TheVariants.{Good, Refused}
 use Rattle.xl_lines.specs.Rules.{Rules, Step, goes_on, refuses as refuses_line, Told, closes}
 use Rattle.xl_lines.specs.Told.{told_of}
 use Rattle.xl_lines.specs.Soon.{told_soon}
-use Rattle.xl_running.specs.Running.{Running, answer_in, at_first, beyond, declares, happens, knows, limits, world_of}
+use Rattle.xl_running.specs.Running.{Running, answer_in, at_first, beyond, happens, knows, limits, world_of}
+use Rattle.xl_running.specs.Stepping.{after_answer as after_answer_in, after_line as after_line_in}
 use Rattle.xl_running.specs.Texts.{bad_line}
 use Rattle.xl_sched.specs.declared.event.Event.{Event}
 use Rattle.xl_sched.specs.declared.favor.Favor.{Favor}
 use Rattle.xl_sched.specs.declared.line.Line.{Line}
-use Rattle.xl_sched.specs.declared.line.Line.TheVariants as line
 use Rattle.xl_sched.specs.declared.refusal.SchedRefusal.{SchedRefusal}
 use Rattle.xl_sched.specs.declared.refusal.SchedRefusal.TheVariants.{Header, Limit}
-use Rattle.xl_sched.specs.Answers.{LineAnswer, passes, gives, refuses}
+use Rattle.xl_sched.specs.Answers.{LineAnswer}
 use Rattle.xl_sched.specs.Favors.{after_favor, favor_line}
 use Rattle.xl_voting.specs.Keeping.{Keeping}
 use Rattle.xl_voting.specs.Listing.{list_keeping, nothing_listed}
@@ -36,25 +36,20 @@ aloud r said = goes_on said.text (record { running = r; votes = said.votes })
 abbrev pub after_happening : {V : Type 0} → Keeping V → Running → V → Event → Step (Voting V)
 after_happening keeping r v e = aloud (happens r e) (event_said keeping r.reading.names (world_of r) v e)
 
+-- with what a schedule's lines say, and these votes
+abbrev pub with_votes : {V : Type 0} → V → Running → Voting V
+with_votes v r = record { running = r; votes = v }
+
 -- what a line says that was read
 abbrev pub after_line : {V : Type 0} → Keeping V → Running → V → Line → Step (Voting V)
-after_line keeping r v (line.Limit limit) = silent (declares r (line.Limit limit)) v
-after_line keeping r v (line.Speak version) = silent (declares r (line.Speak version)) v
-after_line keeping r v (line.Node me list validating) = silent (declares r (line.Node me list validating)) v
-after_line keeping r v (line.Liar me) = silent (declares r (line.Liar me)) v
-after_line keeping r v (line.Name name id) = silent r v
-after_line keeping r v (line.Ledger name parent header) = silent r v
-after_line keeping r v (line.At at) = silent r v
-after_line keeping r v (line.Event e) = after_happening keeping r v e
+after_line keeping r v line = after_line_in (with_votes v) (λ r e. after_happening keeping r v e) r line
 
 -- the next line is refused
 abbrev pub refused_line : {V : Type 0} → Running → SchedRefusal → Step (Voting V)
 refused_line r refusal = refuses_line (bad_line (r.reading.lines + 1) refusal)
 
 abbrev pub after_answer : {V : Type 0} → Keeping V → Running → V → LineAnswer → Step (Voting V)
-after_answer keeping r v (passes reading) = silent (knows r reading) v
-after_answer keeping r v (gives line reading) = after_line keeping (knows r reading) v line
-after_answer keeping r v (refuses refusal) = refused_line r refusal
+after_answer keeping r v answer = after_answer_in (with_votes v) (λ r e. after_happening keeping r v e) r answer
 
 -- a vote is taken, unless too many amendments would be named; its line is counted already
 abbrev pub after_vote : {V : Type 0} → Keeping V → Running → V → Favor → Step (Voting V)

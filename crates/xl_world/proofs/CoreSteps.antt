@@ -23,7 +23,7 @@ use Rattle.xl_rounds.specs.declared.refusal.RoundRefusal.{RoundRefusal}
 use Rattle.xl_core.specs.Building.{said_items}
 use Rattle.xl_core.proofs.Timing.{timing_by, submit_either, relist_either}
 use Rattle.xl_core.specs.declared.event.CoreEvent.{CoreEvent}
-use Rattle.xl_core.specs.declared.event.CoreEvent.TheVariants.{Issue, Frame, Timer, Submit, Greet, Drain, Reports, Stop, Stopped, Relist}
+use Rattle.xl_core.specs.declared.event.CoreEvent.TheVariants.{Issue, Frame, Timer, Submit, Drain, Relist}
 use Rattle.xl_core.specs.declared.hearing.Speech.{Speech}
 use Rattle.xl_core.specs.declared.hearing.Speech.TheVariants as speech
 use Rattle.xl_core.specs.declared.item.Item.{Item}

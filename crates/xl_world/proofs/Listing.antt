@@ -9,7 +9,7 @@ use Rattle.xl_core.specs.Answers.{Done}
 use Rattle.xl_core.specs.Core.{Core, CoreReply, core_reply, core_happens}
 use Rattle.xl_core.specs.Node.{Node, Save, at_moment}
 use Rattle.xl_core.specs.declared.event.CoreEvent.{CoreEvent}
-use Rattle.xl_core.specs.declared.event.CoreEvent.TheVariants.{Issue, Frame, Timer, Submit, Greet, Drain, Reports, Stop, Stopped, Relist}
+use Rattle.xl_core.specs.declared.event.CoreEvent.TheVariants.{Issue, Frame, Timer, Submit, Relist}
 use Rattle.xl_core.specs.declared.report.Report.{Report}
 use Rattle.xl_core.proofs.Timing.{submit_either, relist_either}
 use Rattle.xl_world.specs.declared.place.Fate.{Fate}
