@@ -1,3 +1,4 @@
 pub mod Counting
 pub mod Untold
 mod Writing
+pub mod Asked

@@ -45,7 +45,7 @@ use Rattle.xl_held.specs.Lines.{agreement_line, issuing_line, kept_line, known_l
 bytes_itself : (bytes : List ℕ) → bytes_eq bytes bytes ≡ true
 bytes_itself bytes = (bytes_eq-Decides bytes bytes).1 refl
 
-number_itself : (n : ℕ) → (n == n) ≡ true
+pub number_itself : (n : ℕ) → (n == n) ≡ true
 number_itself n = eq-eqb n n refl
 
 both : (a b : Bool) → a ≡ true → b ≡ true → (a && b) ≡ true
@@ -66,23 +66,23 @@ seq_itself (Some n) = number_itself n
 validation_itself : (v : Validation) → is_same_validation v v ≡ true
 validation_itself v = rw (number_itself v.seq, number_itself v.signed, bool_itself v.full, bytes_itself v.id.0, id_itself v.validated) refl
 
-row_itself : (o : Option Validation) → is_same_row o o ≡ true
+pub row_itself : (o : Option Validation) → is_same_row o o ≡ true
 row_itself None = refl
 row_itself (Some v) = validation_itself v
 
-proposal_itself : (p : Proposal) → is_same_proposal p p ≡ true
+pub proposal_itself : (p : Proposal) → is_same_proposal p p ≡ true
 proposal_itself p = rw (number_itself p.pseq, number_itself p.close, number_itself p.time, bytes_itself p.prev.0, bytes_itself p.set.0) refl
 
-position_itself : (o : Option Proposal) → is_same_position o o ≡ true
+pub position_itself : (o : Option Proposal) → is_same_position o o ≡ true
 position_itself None = refl
 position_itself (Some p) = proposal_itself p
 
-phase_itself : (p : Phase) → is_same_phase p p ≡ true
+pub phase_itself : (p : Phase) → is_same_phase p p ≡ true
 phase_itself Open = refl
 phase_itself Establish = refl
 phase_itself Accepted = refl
 
-mode_itself : (m : Mode) → is_same_mode m m ≡ true
+pub mode_itself : (m : Mode) → is_same_mode m m ≡ true
 mode_itself Proposing = refl
 mode_itself Observing = refl
 mode_itself SwitchedLedger = refl
@@ -94,15 +94,15 @@ members_themselves (m ∷ ms) = both (m == m) (pointwise (λ (x y : ℕ). x == y
 list_itself : (list : TrustedList) → is_same_list list list ≡ true
 list_itself list = both (list.quorum == list.quorum) (pointwise (λ (x y : ℕ). x == y) list.members list.members) (number_itself list.quorum) (members_themselves list.members)
 
-ids_themselves : (ids : List TxId) → are_same_ids ids ids ≡ true
+pub ids_themselves : (ids : List TxId) → are_same_ids ids ids ≡ true
 ids_themselves [] = refl
 ids_themselves (id ∷ ids) = both (bytes_eq id.0 id.0) (are_same_ids ids ids) (bytes_itself id.0) (ids_themselves ids)
 
-report_itself : (o : Option Report) → is_same_report o o ≡ true
+pub report_itself : (o : Option Report) → is_same_report o o ≡ true
 report_itself None = refl
 report_itself (Some r) = both (r.seq == r.seq) (bytes_eq r.id.0 r.id.0) (number_itself r.seq) (bytes_itself r.id.0)
 
-last_itself : (last : LastReport) → is_same_last last last ≡ true
+pub last_itself : (last : LastReport) → is_same_last last last ≡ true
 last_itself last = both (is_same_bool last.relisted last.relisted) (is_same_report last.report last.report) (bool_itself last.relisted) (report_itself last.report)
 
 -- ids that are one more are others
@@ -127,7 +127,7 @@ counted ids others came = elim came [
     differs a b more = grind (arith, nat_tests, more)
 
 -- of no more ledgers none is told
-none_came : (names : List Named) (i known : ℕ) (n : Node) → length n.ledgers.headers ≡ known → ledgers_changed names i known n ≡ []
+pub none_came : (names : List Named) (i known : ℕ) (n : Node) → length n.ledgers.headers ≡ known → ledgers_changed names i known n ≡ []
 unfolding up_from
 none_came names i known n is =
     let less : nat_lt (length n.ledgers.headers) known ≡ false = not_less (length n.ledgers.headers) known is in
@@ -139,12 +139,32 @@ none_came names i known n is =
     not_less a b same = grind (arith, nat_tests, same)
 
 -- nothing behind it
-drop_end : (xs ys : List ℕ) → ys ≡ [] → xs ++ ys ≡ xs
+pub drop_end : (xs ys : List ℕ) → ys ≡ [] → xs ++ ys ≡ xs
 drop_end xs ys none = ap (λ (zs : List ℕ). xs ++ zs) none ∙ append-nil xs
 
 -- so nothing is told of it
-unless_same : (b : Bool) (line : List ℕ) → b ≡ true → unless b line ≡ []
+pub unless_same : (b : Bool) (line : List ℕ) → b ≡ true → unless b line ≡ []
 unless_same b line is = cond-true b [] line is
+
+-- its list stays
+pub list_stays : (i : ℕ) (n later : Node) → later.list ≡ n.list → unless (is_same_list n.list later.list) (list_line i later.list) ≡ []
+list_stays i n later list = unless_same (is_same_list n.list later.list) (list_line i later.list) (ap (is_same_list n.list) list ∙ list_itself n.list)
+
+-- so do its kept number and whether it issues
+pub settings_stay : (i : ℕ) (n later : Node) → later.kept ≡ n.kept → later.failed_save ≡ n.failed_save → later.list ≡ n.list → settings_changed i (noted n) later ≡ unless (n.time == later.time) (time_line i later.time)
+settings_stay i n later same_kept same_failed same_list =
+    let time : List ℕ = unless (n.time == later.time) (time_line i later.time) in
+    let kept : unless (n.kept == later.kept) (kept_line i later.kept) ≡ [] =
+    unless_same (n.kept == later.kept) (kept_line i later.kept) (ap (λ (k : ℕ). n.kept == k) same_kept ∙ number_itself n.kept) in
+    let failed : unless (is_same_number n.failed_save later.failed_save) (issuing_line i later.failed_save) ≡ [] =
+    unless_same (is_same_number n.failed_save later.failed_save) (issuing_line i later.failed_save) (ap (is_same_number n.failed_save) same_failed ∙ seq_itself n.failed_save) in
+    let failing : List ℕ = unless (is_same_number n.failed_save later.failed_save) (issuing_line i later.failed_save) in
+    let listed : List ℕ = unless (is_same_list n.list later.list) (list_line i later.list) in
+    ap (λ (xs : List ℕ). time ++ xs ++ failing ++ listed) kept
+    ∙ (ap (λ (xs : List ℕ). xs ++ failing ++ listed) (append-nil time)
+    ∙ (ap (λ (xs : List ℕ). time ++ xs ++ listed) failed
+    ∙ (ap (λ (xs : List ℕ). xs ++ listed) (append-nil time)
+    ∙ (ap (λ (xs : List ℕ). time ++ xs) (list_stays i n later same_list) ∙ append-nil time))))
 
 -- THE LIST'S MEMBERS
 
@@ -162,21 +182,21 @@ noted_on n k (m ∷ ms) on =
     later : (k m : ℕ) (ms : List ℕ) → (m == k) ≡ false → is_on (m ∷ ms) k ≡ true → is_on ms k ≡ true
     later k m ms is_not on = sym (ap (λ (b : Bool). b || list_any (λ j. k == j) ms) (flipped m k is_not)) ∙ on
 
-row_of_noted : (n : Node) (k : ℕ) (ms : List ℕ) → is_on ms k ≡ true → row_before (map (member_noted n) ms) k ≡ current_of n.rows k
+pub row_of_noted : (n : Node) (k : ℕ) (ms : List ℕ) → is_on ms k ≡ true → row_before (map (member_noted n) ms) k ≡ current_of n.rows k
 row_of_noted n k ms on = ap (option_and_then (λ (known : NotedMember). known.row)) (noted_on n k ms on)
 
-position_of_noted : (n : Node) (k : ℕ) (ms : List ℕ) → is_on ms k ≡ true → position_before (map (member_noted n) ms) k ≡ position_of n.round.positions k
+pub position_of_noted : (n : Node) (k : ℕ) (ms : List ℕ) → is_on ms k ≡ true → position_before (map (member_noted n) ms) k ≡ position_of n.round.positions k
 position_of_noted n k ms on = ap (option_and_then (λ (known : NotedMember). known.position)) (noted_on n k ms on)
 
 -- each of them is on it
-on_more : (k m : ℕ) (ms : List ℕ) → is_on ms k ≡ true → is_on (m ∷ ms) k ≡ true
+pub on_more : (k m : ℕ) (ms : List ℕ) → is_on ms k ≡ true → is_on (m ∷ ms) k ≡ true
 on_more k m ms on = right (k == m) (list_any (λ j. k == j) ms) on
   where
     right : (a b : Bool) → b ≡ true → (a || b) ≡ true
     right true b is = refl
     right false b is = is
 
-on_first : (m : ℕ) (ms : List ℕ) → is_on (m ∷ ms) m ≡ true
+pub on_first : (m : ℕ) (ms : List ℕ) → is_on (m ∷ ms) m ≡ true
 on_first m ms = ap (λ (b : Bool). b || list_any (λ j. m == j) ms) (number_itself m)
 
 -- of what is nothing except for one number nothing else is left
@@ -231,21 +251,7 @@ module _ (names : List Named) (i m : ℕ) (n later : Node) (leaves : LeavesOther
   before = map (member_noted n) n.list.members
 
   settings : settings_changed i (noted n) later ≡ unless (n.time == later.time) (time_line i later.time)
-  settings =
-      let time : List ℕ = unless (n.time == later.time) (time_line i later.time) in
-      let kept : unless (n.kept == later.kept) (kept_line i later.kept) ≡ [] =
-      unless_same (n.kept == later.kept) (kept_line i later.kept) (ap (λ (k : ℕ). n.kept == k) leaves.kept ∙ number_itself n.kept) in
-      let failed : unless (is_same_number n.failed_save later.failed_save) (issuing_line i later.failed_save) ≡ [] =
-      unless_same (is_same_number n.failed_save later.failed_save) (issuing_line i later.failed_save) (ap (is_same_number n.failed_save) leaves.failed_save ∙ seq_itself n.failed_save) in
-      let list : unless (is_same_list n.list later.list) (list_line i later.list) ≡ [] =
-      unless_same (is_same_list n.list later.list) (list_line i later.list) (ap (is_same_list n.list) leaves.list ∙ list_itself n.list) in
-      let failing : List ℕ = unless (is_same_number n.failed_save later.failed_save) (issuing_line i later.failed_save) in
-      let listed : List ℕ = unless (is_same_list n.list later.list) (list_line i later.list) in
-      ap (λ (xs : List ℕ). time ++ xs ++ failing ++ listed) kept
-      ∙ (ap (λ (xs : List ℕ). xs ++ failing ++ listed) (append-nil time)
-      ∙ (ap (λ (xs : List ℕ). time ++ xs ++ listed) failed
-      ∙ (ap (λ (xs : List ℕ). xs ++ listed) (append-nil time)
-      ∙ (ap (λ (xs : List ℕ). time ++ xs) list ∙ append-nil time))))
+  settings = settings_stay i n later leaves.kept leaves.failed_save leaves.list
 
   row_none : (k : ℕ) → is_on n.list.members k ≡ true → k ≢ m → row_changed names i before later k ≡ []
   row_none k there other =
@@ -253,10 +259,10 @@ module _ (names : List Named) (i m : ℕ) (n later : Node) (leaves : LeavesOther
       (ap (λ (o : Option Validation). is_same_row o (current_of later.rows k)) (row_of_noted n k n.list.members there)
       ∙ (ap (is_same_row (current_of n.rows k)) (leaves.rows k other) ∙ row_itself (current_of n.rows k)))
 
-  abbrev its_row : List ℕ
+  abbrev pub its_row : List ℕ
   its_row = unless (is_same_row (current_of n.rows m) (current_of later.rows m)) (row_line names i m (current_of later.rows m))
 
-  rows : rows_changed names i before later ≡ its_row
+  pub rows : rows_changed names i before later ≡ its_row
   rows =
       ap (λ (ms : List ℕ). flat_map (row_changed names i before later) ms) (ap (λ (l : TrustedList). l.members) leaves.list)
       ∙ (one_left (row_changed names i before later) m n.list.members valid.once row_none on
@@ -268,16 +274,16 @@ module _ (names : List Named) (i m : ℕ) (n later : Node) (leaves : LeavesOther
       (ap (λ (o : Option Proposal). is_same_position o (position_of later.round.positions k)) (position_of_noted n k n.list.members there)
       ∙ (ap (is_same_position (position_of n.round.positions k)) (leaves.positions k (on_in_range n.list.members valid.numbers k there).0 other) ∙ position_itself (position_of n.round.positions k)))
 
-  abbrev its_proposal : List ℕ
+  abbrev pub its_proposal : List ℕ
   its_proposal = unless (is_same_position (position_of n.round.positions m) (position_of later.round.positions m)) (proposal_line names i m (position_of later.round.positions m))
 
-  proposals : proposals_changed names i before later ≡ its_proposal
+  pub proposals : proposals_changed names i before later ≡ its_proposal
   proposals =
       ap (λ (ms : List ℕ). flat_map (proposal_changed names i before later) ms) (ap (λ (l : TrustedList). l.members) leaves.list)
       ∙ (one_left (proposal_changed names i before later) m n.list.members valid.once proposal_none on
       ∙ ap (λ (o : Option Proposal). unless (is_same_position o (position_of later.round.positions m)) (proposal_line names i m (position_of later.round.positions m))) (position_of_noted n m n.list.members on))
 
-  its_round : round_changed names i (round_noted n.round) later.round ≡ unless (are_same_ids n.round.pending later.round.pending) (pending_line names i later.round.pending)
+  pub its_round : round_changed names i (round_noted n.round) later.round ≡ unless (are_same_ids n.round.pending later.round.pending) (pending_line names i later.round.pending)
   its_round =
       let pending : List ℕ = unless (are_same_ids n.round.pending later.round.pending) (pending_line names i later.round.pending) in
       let same_phase : is_same_phase n.round.phase later.round.phase ≡ true = ap (is_same_phase n.round.phase) leaves.phase ∙ phase_itself n.round.phase in
@@ -296,19 +302,19 @@ module _ (names : List Named) (i m : ℕ) (n later : Node) (leaves : LeavesOther
   abbrev its_time : List ℕ
   its_time = unless (n.time == later.time) (time_line i later.time)
 
-  abbrev its_ledgers : List ℕ
+  abbrev pub its_ledgers : List ℕ
   its_ledgers = ledgers_changed names i (length n.ledgers.headers) later
 
-  abbrev its_report : List ℕ
+  abbrev pub its_report : List ℕ
   its_report = unless (is_same_last n.last later.last) (report_line names i later.last)
 
-  abbrev its_preference : List ℕ
+  abbrev pub its_preference : List ℕ
   its_preference = unless (is_same_report (preferred n) (preferred later)) (prefers_line names i (preferred later))
 
-  abbrev its_pending : List ℕ
+  abbrev pub its_pending : List ℕ
   its_pending = unless (are_same_ids n.round.pending later.round.pending) (pending_line names i later.round.pending)
 
-  abbrev its_agreement : List ℕ
+  abbrev pub its_agreement : List ℕ
   its_agreement = unless (count_agreeing n.round.positions == count_agreeing later.round.positions && count n.round.positions == count later.round.positions) (agreement_line i later.round)
 
   -- what a hearing may change
@@ -327,7 +333,7 @@ module _ (names : List Named) (i m : ℕ) (n later : Node) (leaves : LeavesOther
       unless_same (is_same_row (current_of n.rows m) (current_of later.rows m)) (row_line names i m (current_of later.rows m))
       (ap (λ (rs : List Row). is_same_row (current_of n.rows m) (current_of rs m)) same ∙ row_itself (current_of n.rows m))
 
-  no_ledgers : later.ledgers ≡ n.ledgers → its_ledgers ≡ []
+  pub no_ledgers : later.ledgers ≡ n.ledgers → its_ledgers ≡ []
   no_ledgers same = none_came names i (length n.ledgers.headers) later (ap (λ (ls : Ledgers). length ls.headers) same)
 
   no_report : later.last ≡ n.last → its_report ≡ []
@@ -340,16 +346,16 @@ module _ (names : List Named) (i m : ℕ) (n later : Node) (leaves : LeavesOther
       ∙ (ap (λ (rs : List Row). preferred (record n { rows = rs; kept = later.kept })) rows ∙ ap (λ (k : ℕ). preferred (record n { kept = k })) leaves.kept) in
       unless_same (is_same_report (preferred n) (preferred later)) (prefers_line names i (preferred later)) (ap (is_same_report (preferred n)) same ∙ report_itself (preferred n))
 
-  no_pending : later.round.pending ≡ n.round.pending → its_pending ≡ []
+  pub no_pending : later.round.pending ≡ n.round.pending → its_pending ≡ []
   no_pending same =
       unless_same (are_same_ids n.round.pending later.round.pending) (pending_line names i later.round.pending) (ap (are_same_ids n.round.pending) same ∙ ids_themselves n.round.pending)
 
-  no_proposal : later.round.positions.members ≡ n.round.positions.members → its_proposal ≡ []
+  pub no_proposal : later.round.positions.members ≡ n.round.positions.members → its_proposal ≡ []
   no_proposal same =
       unless_same (is_same_position (position_of n.round.positions m) (position_of later.round.positions m)) (proposal_line names i m (position_of later.round.positions m))
       (ap (λ (ms : List (Option Proposal)). is_same_position (position_of n.round.positions m) (position_of (record n.round.positions { members = ms }) m)) same ∙ position_itself (position_of n.round.positions m))
 
-  no_agreement : later.round.positions.members ≡ n.round.positions.members → its_agreement ≡ []
+  pub no_agreement : later.round.positions.members ≡ n.round.positions.members → its_agreement ≡ []
   no_agreement same =
       let agreeing : count_agreeing later.round.positions ≡ count_agreeing n.round.positions =
       ap (λ (ms : List (Option Proposal)). count_agreeing (record n.round.positions { members = ms; own = later.round.positions.own })) same

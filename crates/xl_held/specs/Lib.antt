@@ -2,3 +2,4 @@ pub mod Words
 pub mod Lines
 pub mod Changes
 pub mod Hearing
+pub mod Asking

@@ -9,18 +9,18 @@ use crate::members::{push_new_proposals, push_new_rows};
 use crate::reports::{push_new_reports, push_reports};
 use crate::rounds::{push_agreement_line, push_new_agreement, push_new_part, push_part};
 use crate::settings::{push_new_settings, push_settings};
-use std::alloc::Global;
 use xl_base::{NodeNo, OutOfMemory};
 use xl_core::Node;
 use xl_noted::Noted;
 use xl_sched::Reader;
+use xl_told::Hashed;
 use xl_trie::Trie;
 
 /// What a node of this number holds that it didn't hold when it was noted.
 pub fn push_changed(
-    alloc: Global,
     text: &mut String,
     reader: &Reader,
+    hashed: &mut Hashed,
     number: NodeNo,
     before: &Noted,
     node: &Node<Trie>,
@@ -31,19 +31,19 @@ pub fn push_changed(
     let members = before.members.as_slice();
     let round = node.round();
     push_new_settings(text, number, before, node)?;
-    push_new_rows(alloc, text, reader, number, members, node)?;
-    push_new_ledgers(alloc, text, reader, number, before.ledgers, node)?;
-    push_new_reports(alloc, text, reader, number, before, node)?;
-    push_new_part(alloc, text, reader, number, &before.round, round)?;
-    push_new_proposals(alloc, text, reader, number, members, node)?;
+    push_new_rows(text, reader, hashed, number, members, node)?;
+    push_new_ledgers(text, reader, hashed, number, before.ledgers, node)?;
+    push_new_reports(text, reader, hashed, number, before, node)?;
+    push_new_part(text, reader, hashed, number, &before.round, round)?;
+    push_new_proposals(text, reader, hashed, number, members, node)?;
     push_new_agreement(text, number, &before.round, round)
 }
 
 /// What a node of this number holds that was just opened.
 pub fn push_opened(
-    alloc: Global,
     text: &mut String,
     reader: &Reader,
+    hashed: &mut Hashed,
     number: NodeNo,
     node: &Node<Trie>,
 ) -> Result<(), OutOfMemory>
@@ -52,7 +52,7 @@ pub fn push_opened(
 {
     let round = node.round();
     push_settings(text, number, node)?;
-    push_reports(alloc, text, reader, number, node)?;
-    push_part(alloc, text, reader, number, round)?;
+    push_reports(text, reader, hashed, number, node)?;
+    push_part(text, reader, hashed, number, round)?;
     push_agreement_line(text, number, round)
 }

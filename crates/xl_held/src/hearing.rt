@@ -13,7 +13,6 @@ use crate::members::{push_proposal_line, push_row_line};
 use crate::reports::{push_new_preference, push_new_report};
 use crate::rounds::{push_agreement_line, push_pending_line};
 use crate::settings::push_new_time;
-use std::alloc::Global;
 use xl_base::{Millis, NodeNo, OutOfMemory, TxId};
 use xl_core::Node;
 use xl_noted::{
@@ -21,13 +20,14 @@ use xl_noted::{
 };
 use xl_rounds::Round;
 use xl_sched::Reader;
+use xl_told::Hashed;
 use xl_trie::Trie;
 
 /// The member's row, if it is new.
-fn push_heard_row(
-    alloc: Global,
+pub fn push_heard_row(
     text: &mut String,
     reader: &Reader,
+    hashed: &mut Hashed,
     number: NodeNo,
     before: &NotedVote,
     node: &Node<Trie>,
@@ -40,14 +40,14 @@ fn push_heard_row(
     if is_same_row(&before.row, &row) {
         return Ok(());
     }
-    push_row_line(alloc, text, reader, number, before.member, &row)
+    push_row_line(text, reader, hashed, number, before.member, &row)
 }
 
 /// The member's position, if it is new.
 fn push_heard_position(
-    alloc: Global,
     text: &mut String,
     reader: &Reader,
+    hashed: &mut Hashed,
     number: NodeNo,
     before: &NotedPosition,
     round: &Round,
@@ -60,7 +60,7 @@ fn push_heard_position(
     if is_same_position(&before.position, &position) {
         return Ok(());
     }
-    push_proposal_line(alloc, text, reader, number, before.member, &position)
+    push_proposal_line(text, reader, hashed, number, before.member, &position)
 }
 
 fn has_same_agreement(before: &NotedPosition, round: &Round) -> bool
@@ -89,9 +89,9 @@ fn push_heard_agreement(
 
 /// The transactions that are pending, if they aren't as many as before.
 fn push_more_pending(
-    alloc: Global,
     text: &mut String,
     reader: &Reader,
+    hashed: &mut Hashed,
     number: NodeNo,
     before: usize,
     ids: &[TxId],
@@ -102,14 +102,14 @@ fn push_more_pending(
     if before == ids.len() {
         return Ok(());
     }
-    push_pending_line(alloc, text, reader, number, ids)
+    push_pending_line(text, reader, hashed, number, ids)
 }
 
 /// What a node of this number holds that it didn't hold before it heard a validation.
 pub fn push_vote_heard(
-    alloc: Global,
     text: &mut String,
     reader: &Reader,
+    hashed: &mut Hashed,
     number: NodeNo,
     before: &NotedVote,
     node: &Node<Trie>,
@@ -118,12 +118,12 @@ pub fn push_vote_heard(
         ≡ string_bytes text.old ++ vote_heard reader.now.names number before.now node.now) }
 {
     push_new_time(text, number, before.time, node.time())?;
-    push_heard_row(alloc, text, reader, number, before, node)?;
-    push_new_report(alloc, text, reader, number, &before.last, node.last())?;
+    push_heard_row(text, reader, hashed, number, before, node)?;
+    push_new_report(text, reader, hashed, number, &before.last, node.last())?;
     push_new_preference(
-        alloc,
         text,
         reader,
+        hashed,
         number,
         &before.preferred,
         &node.preferred(),
@@ -132,9 +132,9 @@ pub fn push_vote_heard(
 
 /// The same before it heard a proposal.
 pub fn push_proposal_heard(
-    alloc: Global,
     text: &mut String,
     reader: &Reader,
+    hashed: &mut Hashed,
     number: NodeNo,
     before: &NotedPosition,
     node: &Node<Trie>,
@@ -143,15 +143,15 @@ pub fn push_proposal_heard(
         ≡ string_bytes text.old ++ proposal_heard reader.now.names number before.now node.now) }
 {
     push_new_time(text, number, before.time, node.time())?;
-    push_heard_position(alloc, text, reader, number, before, node.round())?;
+    push_heard_position(text, reader, hashed, number, before, node.round())?;
     push_heard_agreement(text, number, before, node.round())
 }
 
 /// The same before it heard a header.
 pub fn push_header_heard(
-    alloc: Global,
     text: &mut String,
     reader: &Reader,
+    hashed: &mut Hashed,
     number: NodeNo,
     before: &NotedLedgers,
     node: &Node<Trie>,
@@ -160,11 +160,11 @@ pub fn push_header_heard(
         ≡ string_bytes text.old ++ header_heard reader.now.names number before.now node.now) }
 {
     push_new_time(text, number, before.time, node.time())?;
-    push_new_ledgers(alloc, text, reader, number, before.ledgers, node)?;
+    push_new_ledgers(text, reader, hashed, number, before.ledgers, node)?;
     push_new_preference(
-        alloc,
         text,
         reader,
+        hashed,
         number,
         &before.preferred,
         &node.preferred(),
@@ -173,9 +173,9 @@ pub fn push_header_heard(
 
 /// The same before it heard a transaction.
 pub fn push_tx_heard(
-    alloc: Global,
     text: &mut String,
     reader: &Reader,
+    hashed: &mut Hashed,
     number: NodeNo,
     before: &NotedPending,
     node: &Node<Trie>,
@@ -185,9 +185,9 @@ pub fn push_tx_heard(
 {
     push_new_time(text, number, before.time, node.time())?;
     push_more_pending(
-        alloc,
         text,
         reader,
+        hashed,
         number,
         before.pending,
         node.round().pending(),

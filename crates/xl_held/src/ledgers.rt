@@ -5,20 +5,18 @@ ghost use Rattle.xl_held.specs.Changes.{ledgers_changed};
 ghost use Rattle.xl_held.specs.Lines.{known_line, ledger_line, ledger_lines};
 
 use crate::words::{push_held, push_last_number};
-use std::alloc::Global;
 use xl_base::{NodeNo, OutOfMemory};
 use xl_core::Node;
 use xl_ledger::Registry;
-use xl_running::push_id;
 use xl_sched::Reader;
-use xl_told::{push_ledger as push_ledger_of, push_numbered, push_of};
+use xl_told::{Hashed, push_id, push_ledger as push_ledger_of, push_numbered, push_of};
 use xl_trie::Trie;
 
 /// The ledger of a place.
 fn push_ledger(
-    alloc: Global,
     text: &mut String,
     reader: &Reader,
+    hashed: &mut Hashed,
     number: NodeNo,
     registry: &Registry,
     place: u32,
@@ -30,17 +28,17 @@ fn push_ledger(
     let ledger = registry.ledger_at(place);
     let header = registry.walk().header(ledger);
     push_held(text, number, " ledger ")?;
-    push_ledger_of(alloc, text, reader, header.seq, &registry.id_at(ledger))?;
+    push_ledger_of(text, reader, hashed, header.seq, &registry.id_at(ledger))?;
     text.push(' ')?;
-    push_id(alloc, text, reader, &header.parent)?;
+    push_id(text, reader, hashed, &header.parent)?;
     push_last_number(text, u64::from(header.close))
 }
 
 /// The ledgers from a place on.
 fn push_ledgers(
-    alloc: Global,
     text: &mut String,
     reader: &Reader,
+    hashed: &mut Hashed,
     number: NodeNo,
     registry: &Registry,
     first: u32,
@@ -49,7 +47,7 @@ fn push_ledgers(
         ≡ string_bytes text.old ++ ledger_lines reader.now.names number registry.now.headers first) }
 {
     for place in first..registry.len() {
-        push_ledger(alloc, text, reader, number, registry, place)?;
+        push_ledger(text, reader, hashed, number, registry, place)?;
     }
     Ok(())
 }
@@ -76,9 +74,9 @@ fn push_fewer(
 
 /// What is new of the ledgers that it knows.
 pub fn push_new_ledgers(
-    alloc: Global,
     text: &mut String,
     reader: &Reader,
+    hashed: &mut Hashed,
     number: NodeNo,
     known: u32,
     node: &Node<Trie>,
@@ -88,5 +86,5 @@ pub fn push_new_ledgers(
 {
     let registry = node.registry();
     push_fewer(text, number, known, registry)?;
-    push_ledgers(alloc, text, reader, number, registry, known)
+    push_ledgers(text, reader, hashed, number, registry, known)
 }

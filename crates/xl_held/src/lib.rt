@@ -4,6 +4,7 @@
 //! what `push_changed` adds is exactly `changed_lines` of what was noted and of the node.
 #![tactic(auto)]
 
+mod asking;
 mod changes;
 mod hearing;
 mod ledgers;
@@ -13,6 +14,7 @@ mod rounds;
 mod settings;
 mod words;
 
+pub use asking::{push_beat_told, push_issue_told};
 pub use changes::{push_changed, push_opened};
 pub use hearing::{
     push_header_heard, push_proposal_heard, push_set_heard, push_tx_heard, push_vote_heard,

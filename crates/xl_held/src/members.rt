@@ -5,19 +5,18 @@ ghost use Rattle.xl_held.specs.Changes.{proposal_changed, proposals_changed, row
 ghost use Rattle.xl_held.specs.Lines.{proposal_line, row_line};
 
 use crate::words::{push_position, push_row};
-use std::alloc::Global;
 use xl_base::{NodeNo, OutOfMemory};
 use xl_core::Node;
 use xl_noted::{NotedMember, is_position_kept, is_row_kept};
 use xl_sched::Reader;
-use xl_told::push_of;
+use xl_told::{Hashed, push_of};
 use xl_trie::Trie;
 use xl_wire::{Proposal, Validation};
 
 pub fn push_row_line(
-    alloc: Global,
     text: &mut String,
     reader: &Reader,
+    hashed: &mut Hashed,
     number: NodeNo,
     member: NodeNo,
     row: &Option<Validation>,
@@ -28,15 +27,15 @@ pub fn push_row_line(
     push_of(text, "held ", number)?;
     push_of(text, " row ", member)?;
     text.push(' ')?;
-    push_row(alloc, text, reader, row)?;
+    push_row(text, reader, hashed, row)?;
     text.push('\n')?;
     Ok(())
 }
 
 fn push_new_row(
-    alloc: Global,
     text: &mut String,
     reader: &Reader,
+    hashed: &mut Hashed,
     number: NodeNo,
     before: &[NotedMember],
     node: &Node<Trie>,
@@ -49,14 +48,14 @@ fn push_new_row(
     if is_row_kept(before, member, &row) {
         return Ok(());
     }
-    push_row_line(alloc, text, reader, number, member, &row)
+    push_row_line(text, reader, hashed, number, member, &row)
 }
 
 /// What is new of the rows.
 pub fn push_new_rows(
-    alloc: Global,
     text: &mut String,
     reader: &Reader,
+    hashed: &mut Hashed,
     number: NodeNo,
     before: &[NotedMember],
     node: &Node<Trie>,
@@ -65,15 +64,15 @@ pub fn push_new_rows(
         ≡ string_bytes text.old ++ rows_changed reader.now.names number before.now node.now) }
 {
     for &member in node.list().members() {
-        push_new_row(alloc, text, reader, number, before, node, member)?;
+        push_new_row(text, reader, hashed, number, before, node, member)?;
     }
     Ok(())
 }
 
 pub fn push_proposal_line(
-    alloc: Global,
     text: &mut String,
     reader: &Reader,
+    hashed: &mut Hashed,
     number: NodeNo,
     member: NodeNo,
     position: &Option<Proposal>,
@@ -84,15 +83,15 @@ pub fn push_proposal_line(
     push_of(text, "held ", number)?;
     push_of(text, " proposal ", member)?;
     text.push(' ')?;
-    push_position(alloc, text, reader, position)?;
+    push_position(text, reader, hashed, position)?;
     text.push('\n')?;
     Ok(())
 }
 
 fn push_new_proposal(
-    alloc: Global,
     text: &mut String,
     reader: &Reader,
+    hashed: &mut Hashed,
     number: NodeNo,
     before: &[NotedMember],
     node: &Node<Trie>,
@@ -105,14 +104,14 @@ fn push_new_proposal(
     if is_position_kept(before, member, &position) {
         return Ok(());
     }
-    push_proposal_line(alloc, text, reader, number, member, &position)
+    push_proposal_line(text, reader, hashed, number, member, &position)
 }
 
 /// What is new of the positions.
 pub fn push_new_proposals(
-    alloc: Global,
     text: &mut String,
     reader: &Reader,
+    hashed: &mut Hashed,
     number: NodeNo,
     before: &[NotedMember],
     node: &Node<Trie>,
@@ -121,7 +120,7 @@ pub fn push_new_proposals(
         ≡ string_bytes text.old ++ proposals_changed reader.now.names number before.now node.now) }
 {
     for &member in node.list().members() {
-        push_new_proposal(alloc, text, reader, number, before, node, member)?;
+        push_new_proposal(text, reader, hashed, number, before, node, member)?;
     }
     Ok(())
 }

@@ -7,17 +7,17 @@ ghost use Rattle.xl_noted.specs.Same.{is_same_last, is_same_report};
 ghost use Rattle.xl_noted.specs.Seen.{noted_seen};
 
 use crate::words::{push_held, push_last, push_report};
-use std::alloc::Global;
 use xl_base::{NodeNo, OutOfMemory};
 use xl_core::{LastReport, Node, Report};
 use xl_noted::{Noted, is_same_last as has_same_last, is_same_report as has_same_report};
 use xl_sched::Reader;
+use xl_told::Hashed;
 use xl_trie::Trie;
 
 fn push_report_line(
-    alloc: Global,
     text: &mut String,
     reader: &Reader,
+    hashed: &mut Hashed,
     number: NodeNo,
     last: &LastReport,
 ) -> Result<(), OutOfMemory>
@@ -25,15 +25,15 @@ fn push_report_line(
         ≡ string_bytes text.old ++ report_line reader.now.names number last.now) }
 {
     push_held(text, number, " report ")?;
-    push_last(alloc, text, reader, last)?;
+    push_last(text, reader, hashed, last)?;
     text.push('\n')?;
     Ok(())
 }
 
 fn push_prefers_line(
-    alloc: Global,
     text: &mut String,
     reader: &Reader,
+    hashed: &mut Hashed,
     number: NodeNo,
     ledger: &Option<Report>,
 ) -> Result<(), OutOfMemory>
@@ -41,15 +41,15 @@ fn push_prefers_line(
         ≡ string_bytes text.old ++ prefers_line reader.now.names number ledger.now) }
 {
     push_held(text, number, " prefers ")?;
-    push_report(alloc, text, reader, ledger)?;
+    push_report(text, reader, hashed, ledger)?;
     text.push('\n')?;
     Ok(())
 }
 
 pub fn push_new_report(
-    alloc: Global,
     text: &mut String,
     reader: &Reader,
+    hashed: &mut Hashed,
     number: NodeNo,
     before: &LastReport,
     last: &LastReport,
@@ -60,13 +60,13 @@ pub fn push_new_report(
     if has_same_last(before, last) {
         return Ok(());
     }
-    push_report_line(alloc, text, reader, number, last)
+    push_report_line(text, reader, hashed, number, last)
 }
 
 pub fn push_new_preference(
-    alloc: Global,
     text: &mut String,
     reader: &Reader,
+    hashed: &mut Hashed,
     number: NodeNo,
     before: &Option<Report>,
     ledger: &Option<Report>,
@@ -77,14 +77,14 @@ pub fn push_new_preference(
     if has_same_report(before, ledger) {
         return Ok(());
     }
-    push_prefers_line(alloc, text, reader, number, ledger)
+    push_prefers_line(text, reader, hashed, number, ledger)
 }
 
 /// What is new of its last report and of what it prefers.
 pub fn push_new_reports(
-    alloc: Global,
     text: &mut String,
     reader: &Reader,
+    hashed: &mut Hashed,
     number: NodeNo,
     before: &Noted,
     node: &Node<Trie>,
@@ -92,11 +92,11 @@ pub fn push_new_reports(
     ensures { OnOk result (string_bytes text.new
         ≡ string_bytes text.old ++ reports_changed reader.now.names number (noted_seen before.now) node.now) }
 {
-    push_new_report(alloc, text, reader, number, &before.last, node.last())?;
+    push_new_report(text, reader, hashed, number, &before.last, node.last())?;
     push_new_preference(
-        alloc,
         text,
         reader,
+        hashed,
         number,
         &before.preferred,
         &node.preferred(),
@@ -105,15 +105,15 @@ pub fn push_new_reports(
 
 /// Its last report, and what it prefers.
 pub fn push_reports(
-    alloc: Global,
     text: &mut String,
     reader: &Reader,
+    hashed: &mut Hashed,
     number: NodeNo,
     node: &Node<Trie>,
 ) -> Result<(), OutOfMemory>
     ensures { OnOk result (string_bytes text.new
         ≡ string_bytes text.old ++ reports_opened reader.now.names number node.now) }
 {
-    push_report_line(alloc, text, reader, number, node.last())?;
-    push_prefers_line(alloc, text, reader, number, &node.preferred())
+    push_report_line(text, reader, hashed, number, node.last())?;
+    push_prefers_line(text, reader, hashed, number, &node.preferred())
 }

@@ -8,7 +8,6 @@ ghost use Rattle.xl_noted.specs.Seen.{round_seen};
 ghost use Rattle.xl_rounds.specs.Positions.{count_agreeing, count};
 
 use crate::words::{push_held, push_last_number, push_mode, push_phase};
-use std::alloc::Global;
 use xl_base::{NodeNo, OutOfMemory, TxId};
 use xl_noted::{
     NotedRound, are_same_ids as have_same_ids, is_same_mode, is_same_phase,
@@ -16,7 +15,7 @@ use xl_noted::{
 };
 use xl_rounds::Round;
 use xl_sched::Reader;
-use xl_told::{push_ids, push_numbered, push_of, push_proposal};
+use xl_told::{Hashed, push_ids, push_numbered, push_of, push_proposal};
 use xl_wire::Proposal;
 
 fn push_round_line(text: &mut String, number: NodeNo, round: &Round) -> Result<(), OutOfMemory>
@@ -30,9 +29,9 @@ fn push_round_line(text: &mut String, number: NodeNo, round: &Round) -> Result<(
 }
 
 fn push_position_line(
-    alloc: Global,
     text: &mut String,
     reader: &Reader,
+    hashed: &mut Hashed,
     number: NodeNo,
     position: &Proposal,
 ) -> Result<(), OutOfMemory>
@@ -40,15 +39,15 @@ fn push_position_line(
         ≡ string_bytes text.old ++ position_line reader.now.names number position.now) }
 {
     push_held(text, number, " position ")?;
-    push_proposal(alloc, text, reader, position)?;
+    push_proposal(text, reader, hashed, position)?;
     text.push('\n')?;
     Ok(())
 }
 
 fn push_set_line(
-    alloc: Global,
     text: &mut String,
     reader: &Reader,
+    hashed: &mut Hashed,
     number: NodeNo,
     ids: &[TxId],
 ) -> Result<(), OutOfMemory>
@@ -56,15 +55,15 @@ fn push_set_line(
         ≡ string_bytes text.old ++ set_line reader.now.names number ids.now) }
 {
     push_held(text, number, " set ")?;
-    push_ids(alloc, text, reader, ids)?;
+    push_ids(text, reader, hashed, ids)?;
     text.push('\n')?;
     Ok(())
 }
 
 pub fn push_pending_line(
-    alloc: Global,
     text: &mut String,
     reader: &Reader,
+    hashed: &mut Hashed,
     number: NodeNo,
     ids: &[TxId],
 ) -> Result<(), OutOfMemory>
@@ -72,7 +71,7 @@ pub fn push_pending_line(
         ≡ string_bytes text.old ++ pending_line reader.now.names number ids.now) }
 {
     push_held(text, number, " pending ")?;
-    push_ids(alloc, text, reader, ids)?;
+    push_ids(text, reader, hashed, ids)?;
     text.push('\n')?;
     Ok(())
 }
@@ -113,9 +112,9 @@ fn push_new_round(
 }
 
 fn push_new_position(
-    alloc: Global,
     text: &mut String,
     reader: &Reader,
+    hashed: &mut Hashed,
     number: NodeNo,
     before: &Proposal,
     position: &Proposal,
@@ -126,13 +125,13 @@ fn push_new_position(
     if has_same_proposal(before, position) {
         return Ok(());
     }
-    push_position_line(alloc, text, reader, number, position)
+    push_position_line(text, reader, hashed, number, position)
 }
 
 fn push_new_set(
-    alloc: Global,
     text: &mut String,
     reader: &Reader,
+    hashed: &mut Hashed,
     number: NodeNo,
     before: &[TxId],
     ids: &[TxId],
@@ -143,13 +142,13 @@ fn push_new_set(
     if have_same_ids(before, ids) {
         return Ok(());
     }
-    push_set_line(alloc, text, reader, number, ids)
+    push_set_line(text, reader, hashed, number, ids)
 }
 
 fn push_new_pending(
-    alloc: Global,
     text: &mut String,
     reader: &Reader,
+    hashed: &mut Hashed,
     number: NodeNo,
     before: &[TxId],
     ids: &[TxId],
@@ -160,14 +159,14 @@ fn push_new_pending(
     if have_same_ids(before, ids) {
         return Ok(());
     }
-    push_pending_line(alloc, text, reader, number, ids)
+    push_pending_line(text, reader, hashed, number, ids)
 }
 
 /// What is new of its own part in its round.
 pub fn push_new_part(
-    alloc: Global,
     text: &mut String,
     reader: &Reader,
+    hashed: &mut Hashed,
     number: NodeNo,
     before: &NotedRound,
     round: &Round,
@@ -177,25 +176,25 @@ pub fn push_new_part(
 {
     push_new_round(text, number, before, round)?;
     push_new_position(
-        alloc,
         text,
         reader,
+        hashed,
         number,
         &before.position,
         &round.position(),
     )?;
     push_new_set(
-        alloc,
         text,
         reader,
+        hashed,
         number,
         before.own.as_slice(),
         round.own_set(),
     )?;
     push_new_pending(
-        alloc,
         text,
         reader,
+        hashed,
         number,
         before.pending.as_slice(),
         round.pending(),
@@ -227,9 +226,9 @@ pub fn push_new_agreement(
 
 /// Its own part in its round.
 pub fn push_part(
-    alloc: Global,
     text: &mut String,
     reader: &Reader,
+    hashed: &mut Hashed,
     number: NodeNo,
     round: &Round,
 ) -> Result<(), OutOfMemory>
@@ -237,7 +236,7 @@ pub fn push_part(
         ≡ string_bytes text.old ++ round_opened reader.now.names number round.now) }
 {
     push_round_line(text, number, round)?;
-    push_position_line(alloc, text, reader, number, &round.position())?;
-    push_set_line(alloc, text, reader, number, round.own_set())?;
-    push_pending_line(alloc, text, reader, number, round.pending())
+    push_position_line(text, reader, hashed, number, &round.position())?;
+    push_set_line(text, reader, hashed, number, round.own_set())?;
+    push_pending_line(text, reader, hashed, number, round.pending())
 }

@@ -70,7 +70,7 @@ pub fn push_new_time(
     push_time(text, node, time)
 }
 
-fn push_new_kept(text: &mut String, node: NodeNo, before: Seq, kept: Seq) -> Result<(), OutOfMemory>
+pub fn push_new_kept(text: &mut String, node: NodeNo, before: Seq, kept: Seq) -> Result<(), OutOfMemory>
     ensures { OnOk result (string_bytes text.new
         ≡ string_bytes text.old ++ unless (before == kept) (kept_line node kept)) }
 {
@@ -80,7 +80,7 @@ fn push_new_kept(text: &mut String, node: NodeNo, before: Seq, kept: Seq) -> Res
     push_kept(text, node, kept)
 }
 
-fn push_new_issuing(
+pub fn push_new_issuing(
     text: &mut String,
     node: NodeNo,
     before: &Option<Seq>,

@@ -13,12 +13,11 @@ ghost use Rattle.xl_held.specs.Words.{
   row_text,
 };
 
-use std::alloc::Global;
 use xl_base::{NodeNo, OutOfMemory, Seq};
 use xl_core::{LastReport, Report};
 use xl_rounds::{Mode, Phase};
 use xl_sched::Reader;
-use xl_told::{push_ledger, push_numbered, push_of, push_proposal, push_validation};
+use xl_told::{Hashed, push_ledger, push_numbered, push_of, push_proposal, push_validation};
 use xl_wire::{Proposal, Validation};
 
 /// The beginning of a line: of which node it tells, and a word.
@@ -49,9 +48,9 @@ pub fn push_issuing(text: &mut String, failed: &Option<Seq>) -> Result<(), OutOf
 }
 
 pub fn push_report(
-    alloc: Global,
     text: &mut String,
     reader: &Reader,
+    hashed: &mut Hashed,
     report: &Option<Report>,
 ) -> Result<(), OutOfMemory>
     ensures { OnOk result (string_bytes text.new
@@ -60,7 +59,7 @@ pub fn push_report(
     let Some(Report { seq, id }) = report else {
         return Ok(text.push_str("none")?);
     };
-    push_ledger(alloc, text, reader, *seq, id)
+    push_ledger(text, reader, hashed, *seq, id)
 }
 
 fn push_relisted(text: &mut String, relisted: bool) -> Result<(), OutOfMemory>
@@ -73,42 +72,42 @@ fn push_relisted(text: &mut String, relisted: bool) -> Result<(), OutOfMemory>
 }
 
 pub fn push_last(
-    alloc: Global,
     text: &mut String,
     reader: &Reader,
+    hashed: &mut Hashed,
     last: &LastReport,
 ) -> Result<(), OutOfMemory>
     ensures { OnOk result (string_bytes text.new ≡ string_bytes text.old ++ last_text reader.now.names last.now) }
 {
-    push_report(alloc, text, reader, &last.report)?;
+    push_report(text, reader, hashed, &last.report)?;
     push_relisted(text, last.relisted)
 }
 
 pub fn push_row(
-    alloc: Global,
     text: &mut String,
     reader: &Reader,
+    hashed: &mut Hashed,
     row: &Option<Validation>,
 ) -> Result<(), OutOfMemory>
     ensures { OnOk result (string_bytes text.new ≡ string_bytes text.old ++ row_text reader.now.names row.now) }
 {
     match row {
-        Some(validation) => push_validation(alloc, text, reader, validation),
+        Some(validation) => push_validation(text, reader, hashed, validation),
         None => Ok(text.push_str("none")?),
     }
 }
 
 pub fn push_position(
-    alloc: Global,
     text: &mut String,
     reader: &Reader,
+    hashed: &mut Hashed,
     position: &Option<Proposal>,
 ) -> Result<(), OutOfMemory>
     ensures { OnOk result (string_bytes text.new
         ≡ string_bytes text.old ++ position_text reader.now.names position.now) }
 {
     match position {
-        Some(proposal) => push_proposal(alloc, text, reader, proposal),
+        Some(proposal) => push_proposal(text, reader, hashed, proposal),
         None => Ok(text.push_str("none")?),
     }
 }
