@@ -20,7 +20,7 @@ use Rattle.xl_core.specs.Node.{Node}
 use Rattle.xl_core.specs.Queues.{count_fitting, frames_in, stream_of}
 use Rattle.xl_core.specs.Sending.{blank_frame, has_spelling, sealed_bytes}
 use Rattle.xl_core.specs.declared.event.CoreEvent.{CoreEvent}
-use Rattle.xl_core.specs.declared.event.CoreEvent.TheVariants.{Issue, Frame, Timer, Submit, Relist, Greet, Drain, Reports, Stop, Stopped}
+use Rattle.xl_core.specs.declared.event.CoreEvent.TheVariants.{Drain}
 use Rattle.xl_core.proofs.Spelling.{sealed_raw}
 use Rattle.xl_store.specs.declared.entry.Saved.{Saved}
 use Rattle.xl_store.specs.Entries.{entry_of, reply_of}

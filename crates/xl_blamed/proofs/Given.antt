@@ -13,7 +13,7 @@ use Rattle.xl_core.specs.Core.{Core}
 use Rattle.xl_core.specs.CoreLives.{given_over}
 use Rattle.xl_core.specs.Hearing.{spoken_in}
 use Rattle.xl_core.specs.declared.event.CoreEvent.{CoreEvent}
-use Rattle.xl_core.specs.declared.event.CoreEvent.TheVariants.{Issue, Frame, Timer, Submit, Relist, Greet, Drain, Reports, Stop, Stopped}
+use Rattle.xl_core.specs.declared.event.CoreEvent.TheVariants.{Frame}
 use Rattle.xl_core.specs.declared.hearing.Spoken.{Spoken}
 use Rattle.xl_core.specs.declared.refusal.Refusal.{Refusal}
 use Rattle.xl_store.specs.Entries.{life_of, reply_of, save_of}

@@ -9,7 +9,7 @@ use Rattle.xl_core.specs.Hearing.{spoken_in}
 use Rattle.xl_core.specs.Node.{at_moment}
 use Rattle.xl_core.specs.declared.deed.Deed.TheVariants as deed
 use Rattle.xl_core.specs.declared.event.CoreEvent.{CoreEvent}
-use Rattle.xl_core.specs.declared.event.CoreEvent.TheVariants.{Issue, Frame, Timer, Submit, Relist, Greet, Drain, Reports, Stop, Stopped}
+use Rattle.xl_core.specs.declared.event.CoreEvent.TheVariants.{Issue, Frame, Timer, Submit, Relist}
 use Rattle.xl_core.specs.declared.hearing.Speech.{Speech}
 use Rattle.xl_core.specs.declared.hearing.Speech.TheVariants as speech
 use Rattle.xl_core.specs.declared.hearing.Spoken.{Spoken}
@@ -34,33 +34,16 @@ use Rattle.xl_blamed.specs.Showing.{ShowsEvidence}
 
 beat_same : (me : ℕ) (beat : TimerAnswer) → issued_by_beat me beat ≡ said_by_beat me beat
 beat_same me timer_answer.Nothing = refl
-beat_same me timer_answer.Closed = refl
-beat_same me timer_answer.Updated = refl
-beat_same me (timer_answer.Switched seq id) = refl
-beat_same me (timer_answer.NoRoom limit) = refl
-beat_same me (timer_answer.Built seq id moved_on issued.Full) = refl
-beat_same me (timer_answer.Built seq id moved_on issued.Partial) = refl
-beat_same me (timer_answer.Built seq id moved_on issued.Silent) = refl
-beat_same me (timer_answer.Built seq id moved_on (issued.Refused why)) = refl
+beat_same me other = refl
 
 issue_same : (me now seq : ℕ) (id : _) (full : Bool) (a : Answer)
     → issued_in me (Issue now seq id full) a ≡ said_in me (deed.Issue now seq id full) a
 issue_same me now seq id full answer.Done = refl
-issue_same me now seq id full (answer.Refused why) = refl
-issue_same me now seq id full (answer.Took taken) = refl
-issue_same me now seq id full (answer.Beats beat) = refl
-issue_same me now seq id full (answer.Gave to frames) = refl
-issue_same me now seq id full (answer.Handed reports) = refl
-issue_same me now seq id full (answer.Told stopped) = refl
+issue_same me now seq id full other = refl
 
 timer_same : (me now : ℕ) (a : Answer) → issued_in me (Timer now) a ≡ said_in me (deed.Timer now) a
-timer_same me now answer.Done = refl
-timer_same me now (answer.Refused why) = refl
-timer_same me now (answer.Took taken) = refl
 timer_same me now (answer.Beats beat) = beat_same me beat
-timer_same me now (answer.Gave to frames) = refl
-timer_same me now (answer.Handed reports) = refl
-timer_same me now (answer.Told stopped) = refl
+timer_same me now other = refl
 
 -- what an answer tells is what the core's step issues
 issues_same : (core : Core) (event : CoreEvent) (outcome : Option Saved)
@@ -91,10 +74,7 @@ heard_same (Ok said) = by said.from said.what
   where
     by : (from : ℕ) (what : Speech) → said_heard (heard_so (Ok (record { from = from; what = what }))) ≡ evidence.said_in_speech from what
     by from (speech.Validation v) = refl
-    by from (speech.Header h) = refl
-    by from (speech.Proposal p) = refl
-    by from (speech.TxSet ids) = refl
-    by from (speech.Tx tx) = refl
+    by from other = refl
 
 hears_same : (core : Core) (event : CoreEvent) → said_heard (heard_in core event) ≡ heard_by core event
 hears_same core (Frame now bytes) = heard_same (spoken_in core.node.keys core.node.list.members bytes)

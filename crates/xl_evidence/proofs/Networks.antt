@@ -16,7 +16,7 @@ use Rattle.xl_lists.proofs.Agreement.{vouches_still, same_id-true}
 use Rattle.xl_lists.proofs.Forking.{liars_shown, vouches_twice}
 use Rattle.xl_wire.specs.declared.validation.Validation.{Validation}
 use Rattle.xl_core.specs.declared.event.CoreEvent.{CoreEvent}
-use Rattle.xl_core.specs.declared.event.CoreEvent.TheVariants.{Issue, Frame, Timer, Submit, Greet, Drain, Reports, Stop, Stopped, Relist}
+use Rattle.xl_core.specs.declared.event.CoreEvent.TheVariants.{Frame}
 use Rattle.xl_core.specs.declared.hearing.Spoken.{Spoken}
 use Rattle.xl_core.specs.declared.hearing.Speech.{Speech}
 use Rattle.xl_core.specs.declared.hearing.Speech.TheVariants as speech
@@ -75,10 +75,7 @@ heard_real w p sent (Frame now bytes) fair =
     by_speech : (from : ℕ) (what : Speech) → ((v : Validation) → what ≡ speech.Validation v → IsRealIn w (said_by from v)) →
         All (IsRealIn w) (option_to_list (said_so (Ok (record { from = from; what = what }))))
     by_speech from (speech.Validation v) real = All-cons (IsRealIn w) (said_by from v) [] (real v refl) (All-nil (IsRealIn w))
-    by_speech from (speech.Header h) real = All-nil (IsRealIn w)
-    by_speech from (speech.Proposal q) real = All-nil (IsRealIn w)
-    by_speech from (speech.TxSet ids) real = All-nil (IsRealIn w)
-    by_speech from (speech.Tx tx) real = All-nil (IsRealIn w)
+    by_speech from other real = All-nil (IsRealIn w)
 
     by_spoken : (r : Result Spoken Refusal) → ((f : ℕ) (v : Validation) → r ≡ Ok (record { from = f; what = speech.Validation v }) → IsRealIn w (said_by f v)) → All (IsRealIn w) (option_to_list (said_so r))
     by_spoken (Err why) real = All-nil (IsRealIn w)

@@ -5,7 +5,7 @@ use Rattle.std.proofs.lemmas.List.Elements.{All-cons, All-map, All-nil, All-weak
 use Rattle.xl_core.specs.Core.{Core}
 use Rattle.xl_core.specs.CoreLives.{CoreHappening}
 use Rattle.xl_core.specs.declared.event.CoreEvent.{CoreEvent}
-use Rattle.xl_core.specs.declared.event.CoreEvent.TheVariants.{Issue, Frame, Timer, Submit, Relist, Greet, Drain, Reports, Stop, Stopped}
+use Rattle.xl_core.specs.declared.event.CoreEvent.TheVariants.{Relist}
 use Rattle.xl_store.specs.Entries.{IsAllowed, life_of, reply_of}
 use Rattle.xl_audit.specs.Rights.{AreRight, entries_of}
 use Rattle.xl_audit.specs.declared.written.Written.{Written}

@@ -80,13 +80,8 @@ module _ (xs ys : List ℕ) where
       (λ i. not (is_kind (v i) (k i))) (ap Kind k)
 
 same_length : (xs ys : List ℕ) → 5 < length xs → length_in xs ≡ length_in (xs ++ ys)
-same_length [] ys h = absurd (omega arith)
-same_length (a ∷ []) ys h = absurd (omega arith)
-same_length (a ∷ b ∷ []) ys h = absurd (omega arith)
-same_length (a ∷ b ∷ c ∷ []) ys h = absurd (omega arith)
-same_length (a ∷ b ∷ c ∷ d ∷ []) ys h = absurd (omega arith)
-same_length (a ∷ b ∷ c ∷ d ∷ e ∷ []) ys h = absurd (omega arith)
 same_length (a ∷ b ∷ c ∷ d ∷ e ∷ f ∷ xs) ys h = refl
+same_length other ys h = absurd (omega arith)
 
 same_long : (xs ys : List ℕ) → 5 < length xs → long xs ≡ long (xs ++ ys)
 same_long xs ys h =

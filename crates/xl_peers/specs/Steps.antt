@@ -4,8 +4,8 @@ use Rattle.std.specs.List.{flat_map}
 use Rattle.xl_wire.specs.Lengths.{longest_frame}
 use Rattle.xl_links.specs.Links.{Reading, bytes_of}
 use Rattle.xl_core.specs.declared.event.CoreEvent.{CoreEvent}
-use Rattle.xl_core.specs.declared.event.CoreEvent.TheVariants.{Issue, Frame, Timer, Submit, Greet, Drain, Reports, Stop}
-use Rattle.xl_core.specs.declared.event.CoreEvent.TheVariants.{Stopped, Relist}
+use Rattle.xl_core.specs.declared.event.CoreEvent.TheVariants.{Frame, Greet, Drain}
+use Rattle.xl_core.specs.declared.event.CoreEvent.TheVariants.{Stopped}
 use Rattle.xl_core.specs.Answers.{Answer, Done, Gave, Told, given_in}
 use Rattle.xl_core.specs.Queues.{stream_of}
 use Rattle.xl_store.specs.Calls.{Call}

@@ -25,7 +25,7 @@ use Rattle.xl_core.specs.Hearing.{hearing_refusal, said_in, spoken_in}
 use Rattle.xl_core.specs.Node.{Node, Reply, at_moment, bytes_reply, placed_as, proposal_answer, refusal_at, reply_with, reply_unless, second_of, speech_reply, taken_reply}
 use Rattle.xl_core.specs.Refusals.{refusal_from, round_from}
 use Rattle.xl_core.specs.declared.event.CoreEvent.{CoreEvent}
-use Rattle.xl_core.specs.declared.event.CoreEvent.TheVariants.{Issue, Frame, Timer, Submit, Relist, Greet, Drain, Reports, Stop, Stopped}
+use Rattle.xl_core.specs.declared.event.CoreEvent.TheVariants.{Frame}
 use Rattle.xl_core.specs.declared.hearing.Speech.{Speech}
 use Rattle.xl_core.specs.declared.hearing.Speech.TheVariants as speech
 use Rattle.xl_core.specs.declared.hearing.Spoken.{Spoken}
@@ -70,17 +70,11 @@ refused_hides n bytes why is = by (hearing_refusal n.keys n.list.members bytes) 
 
 row_shows : (why : ValRefusal) → hides (refusal_from why) ≡ false
 row_shows (row.Stale now signed) = refl
-row_shows (row.Repeat id) = refl
-row_shows (row.Conflict id) = refl
-row_shows (row.OldSeq largest) = refl
+row_shows other = refl
 
 round_shows : (why : RoundRefusal) → hides (round_from why) ≡ false
 round_shows (round.Pending tx) = refl
-round_shows (round.PoolFull most) = refl
-round_shows (round.WrongPrev ours) = refl
-round_shows (round.OldPosition kept) = refl
-round_shows (round.Left member) = refl
-round_shows (round.StaleProposal now) = refl
+round_shows other = refl
 
 -- a reply that takes what is heard, unless it is refused so
 unless_shows : {Why : Type 0} (from : Why → Refusal) → ((why : Why) → hides (from why) ≡ false) → (n : Node) (o : Option Why) (reply : Reply)

@@ -1,17 +1,17 @@
 -- What is told of a schedule. Source: this project's own formats.
 use Rattle.std.specs.Prelude.{ℕ, ◌+◌, List, ◌++◌, is_some}
-use Rattle.xl_lines.specs.Rules.{Rules, Step, goes_on, refuses as refuses_line, Told}
+use Rattle.xl_lines.specs.Rules.{Rules, Step, goes_on, Told}
 use Rattle.xl_lines.specs.Soon.{told_soon}
 use Rattle.xl_lines.specs.Told.{told_of}
 use Rattle.xl_texts.specs.Promises.{Promise, on, always}
 use Rattle.xl_sched.specs.declared.event.Event.{Event}
 use Rattle.xl_sched.specs.declared.line.Line.{Line}
-use Rattle.xl_sched.specs.declared.line.Line.TheVariants as line
-use Rattle.xl_sched.specs.Answers.{LineAnswer, passes, gives, refuses}
+use Rattle.xl_sched.specs.Answers.{LineAnswer}
 use Rattle.xl_world.specs.Parts.{parts_of}
-use Rattle.xl_running.specs.Running.{Running, answer_in, at_first, beyond, declares, happens, knows, limits, world_of}
+use Rattle.xl_running.specs.Running.{Running, answer_in, at_first, beyond, happens, limits, world_of}
+use Rattle.xl_running.specs.Stepping.{after_answer as after_answer_in, after_line as after_line_in}
 use Rattle.xl_running.specs.Texts.{bad_line}
-use Rattle.xl_replay.specs.Replays.{silent, told_at_end}
+use Rattle.xl_replay.specs.Replays.{told_at_end}
 use Rattle.xl_held.specs.Changes.{unless}
 use Rattle.xl_tell.specs.Nodes.{all_opened}
 use Rattle.xl_tell.specs.Parts.{lines_of_parts}
@@ -25,22 +25,17 @@ abbrev pub event_lines : Running → Event → List ℕ
 event_lines r e =
     opening r ++ lines_of_parts r.reading.names r.reading.lines (world_of r) (parts_of (world_of r) e)
 
+-- an event is one more step of the world, and is told
+abbrev pub after_happening : Running → Event → Step Running
+after_happening r e = goes_on (event_lines r e) (happens r e)
+
 -- what a line says that was read
 abbrev pub after_line : Running → Line → Step Running
-after_line r (line.Limit limit) = silent (declares r (line.Limit limit))
-after_line r (line.Speak version) = silent (declares r (line.Speak version))
-after_line r (line.Node me list validating) = silent (declares r (line.Node me list validating))
-after_line r (line.Liar me) = silent (declares r (line.Liar me))
-after_line r (line.Name name id) = silent r
-after_line r (line.Ledger name parent header) = silent r
-after_line r (line.At at) = silent r
-after_line r (line.Event e) = goes_on (event_lines r e) (happens r e)
+after_line r l = after_line_in (λ r. r) after_happening r l
 
 -- what is written of a line as it was read
 abbrev pub after_answer : Running → LineAnswer → Step Running
-after_answer r (passes reading) = silent (knows r reading)
-after_answer r (gives line reading) = after_line (knows r reading) line
-after_answer r (refuses refusal) = refuses_line (bad_line (r.reading.lines + 1) refusal)
+after_answer r answer = after_answer_in (λ r. r) after_happening r answer
 
 -- a replay's, except for the text of an event
 abbrev pub rules : Rules Running

@@ -1,8 +1,7 @@
 // What liars say.
-ghost use Rattle.std.specs.Prelude.{◌≡◌, ℕ, IfOk, IfSome, OnOk, option_copied};
+ghost use Rattle.std.specs.Prelude.{◌≡◌, ℕ, Some, Ok, IfOk, IfSome, OnOk, option_copied};
 ghost use Rattle.xl_sched.specs.Answers.{PutsEvent};
 ghost use Rattle.xl_sched.specs.Lies.{may_say};
-ghost use Rattle.xl_sched.specs.Refusals.{GivenMemory};
 
 use crate::choices::full;
 use crate::event::{Lied, What};
@@ -18,7 +17,8 @@ use xl_wire::{Proposal, Validation};
 
 impl Reader {
     ghost use Rattle.xl_sched.specs.Fits.{IsFit, IsFitPair, IsFitLied};
-    ghost use Rattle.xl_sched.specs.Lies.{pair_of, lied_of, proposal_of, said_proposal, told_if, validation_of, said_validation, said_header, said_tx_set, said_tx, lie_event};
+    ghost use Rattle.xl_sched.specs.Lies.{pair_of, lie_of, proposal_of, said_proposal, told_if, validation_of, said_validation, said_header, said_tx_set, said_tx, lie_event};
+    ghost use Rattle.xl_sched.specs.Words.{event_at};
 
     /// `lie f t` and what is said.
     #[inline(never)]
@@ -36,27 +36,12 @@ impl Reader {
             return Err(arguments.miscounted());
         }
         let (from, to) = self.pair(liar, honest)?;
-        let what = self.lied(word, token, others)?;
-        self.happen(What::Lie { from, to, what }, said);
-        Ok(())
-    }
-
-    /// What a lie of this word says.
-    fn lied<'a>(
-        &self,
-        word: Option<LieWord>,
-        token: &'a [u8],
-        arguments: Tokens<'a>,
-    ) -> Result<Lied, LineFault<'a>>
-        ensures value { GivenMemory result (lied_of self.now.names word token.now arguments.entry) }
-        ensures fit { IfOk result IsFitLied }
-    {
         match word {
-            Some(LieWord::Proposal) => self.proposal(arguments),
-            Some(LieWord::Validation) => self.validation(arguments),
-            Some(LieWord::Header) => self.header(arguments),
-            Some(LieWord::TxSet) => self.tx_set(arguments),
-            Some(LieWord::Tx) => self.tx(arguments),
+            Some(LieWord::Proposal) => self.proposal(from, to, others, said),
+            Some(LieWord::Validation) => self.validation(from, to, others, said),
+            Some(LieWord::Header) => self.header(from, to, others, said),
+            Some(LieWord::TxSet) => self.tx_set(from, to, others, said),
+            Some(LieWord::Tx) => self.tx(from, to, others, said),
             None => Err(LineFault::with_text(Cause::Choice, token)),
         }
     }
@@ -69,13 +54,40 @@ impl Reader {
         Ok((self.liars.declared(liar)?, self.nodes.declared(honest)?))
     }
 
+    /// What a liar says is put into the place of the line.
+    fn lies(&self, from: NodeNo, to: NodeNo, lie: Lied, said: &mut Option<Line>)
+        requires pair { IsFitPair self.now from to }
+        requires lie { IsFitLied lie }
+        ensures value { said.new ≡ Some (event_at self.now (What.Lie from to lie)) }
+        ensures fit { (sent : ℕ) → IfSome said.new (IsFit self.now sent) }
+    {
+        self.happen(
+            What::Lie {
+                from,
+                to,
+                what: lie,
+            },
+            said,
+        );
+    }
+
     /// `prev set pseq close time`.
-    fn proposal<'a>(&self, arguments: Tokens<'a>) -> Result<Lied, LineFault<'a>>
-        ensures value { result ≡ said_proposal self.now.names arguments.entry }
-        ensures fit { IfOk result IsFitLied }
+    fn proposal<'a>(
+        &self,
+        from: NodeNo,
+        to: NodeNo,
+        arguments: Tokens<'a>,
+        said: &mut Option<Line>,
+    ) -> Result<(), LineFault<'a>>
+        requires { IsFitPair self.now from to }
+        ensures value { PutsEvent self.now result said.new
+            (lie_of (Ok (from, to)) (said_proposal self.now.names arguments.entry)) }
+        ensures fit { (sent : ℕ) → OnOk result (IfSome said.new (IsFit self.now sent)) }
     {
         let (prev, set, pseq, close, time) = arguments.five()?;
-        self.proposal_of(prev, set, pseq, close, time)
+        let lie = self.proposal_of(prev, set, pseq, close, time)?;
+        self.lies(from, to, lie, said);
+        Ok(())
     }
 
     /// The parts of a proposal, from left to right.
@@ -100,8 +112,25 @@ impl Reader {
     }
 
     /// `seq id signed full`, or `partial`, and one id more in version 2.
-    fn validation<'a>(&self, arguments: Tokens<'a>) -> Result<Lied, LineFault<'a>>
-        ensures value { result ≡ said_validation self.now.names arguments.entry }
+    fn validation<'a>(
+        &self,
+        from: NodeNo,
+        to: NodeNo,
+        arguments: Tokens<'a>,
+        said: &mut Option<Line>,
+    ) -> Result<(), LineFault<'a>>
+        requires { IsFitPair self.now from to }
+        ensures value { PutsEvent self.now result said.new
+            (lie_of (Ok (from, to)) (said_validation self.now.names arguments.entry)) }
+        ensures fit { (sent : ℕ) → OnOk result (IfSome said.new (IsFit self.now sent)) }
+    {
+        let lie = self.said_validation(&arguments)?;
+        self.lies(from, to, lie, said);
+        Ok(())
+    }
+
+    fn said_validation<'a>(&self, arguments: &Tokens<'a>) -> Result<Lied, LineFault<'a>>
+        ensures value { result ≡ said_validation self.now.names arguments.now }
         ensures fit { IfOk result IsFitLied }
     {
         let Some((seq, id, signed, kind, others)) = arguments.four_and_others() else {
@@ -149,33 +178,62 @@ impl Reader {
     }
 
     /// `w`, which names a ledger.
-    fn header<'a>(&self, arguments: Tokens<'a>) -> Result<Lied, LineFault<'a>>
-        ensures value { GivenMemory result (said_header self.now.names arguments.entry) }
-        ensures fit { IfOk result IsFitLied }
+    fn header<'a>(
+        &self,
+        from: NodeNo,
+        to: NodeNo,
+        arguments: Tokens<'a>,
+        said: &mut Option<Line>,
+    ) -> Result<(), LineFault<'a>>
+        requires { IsFitPair self.now from to }
+        ensures value { PutsEvent self.now result said.new
+            (lie_of (Ok (from, to)) (said_header self.now.names arguments.entry)) }
+        ensures fit { (sent : ℕ) → OnOk result (IfSome said.new (IsFit self.now sent)) }
     {
         let name = arguments.one()?;
         let ledger = self.names.ledger(name)?;
         let name = Bytes::from_vec(Vec::from_slice(self.alloc, name)?);
         let header = ledger.header;
-        Ok(Lied::Header { name, header })
+        self.lies(from, to, Lied::Header { name, header }, said);
+        Ok(())
     }
 
     /// `ids`, or `-`.
-    fn tx_set<'a>(&self, arguments: Tokens<'a>) -> Result<Lied, LineFault<'a>>
-        ensures value { GivenMemory result (said_tx_set self.now.names arguments.entry) }
-        ensures fit { IfOk result IsFitLied }
+    fn tx_set<'a>(
+        &self,
+        from: NodeNo,
+        to: NodeNo,
+        arguments: Tokens<'a>,
+        said: &mut Option<Line>,
+    ) -> Result<(), LineFault<'a>>
+        requires { IsFitPair self.now from to }
+        ensures value { PutsEvent self.now result said.new
+            (lie_of (Ok (from, to)) (said_tx_set self.now.names arguments.entry)) }
+        ensures fit { (sent : ℕ) → OnOk result (IfSome said.new (IsFit self.now sent)) }
     {
         let token = arguments.one()?;
-        Ok(Lied::TxSet(tx_set(self.alloc, &self.names, token)?))
+        let ids = tx_set(self.alloc, &self.names, token)?;
+        self.lies(from, to, Lied::TxSet(ids), said);
+        Ok(())
     }
 
     /// `id`.
-    fn tx<'a>(&self, arguments: Tokens<'a>) -> Result<Lied, LineFault<'a>>
-        ensures value { result ≡ said_tx self.now.names arguments.entry }
-        ensures fit { IfOk result IsFitLied }
+    fn tx<'a>(
+        &self,
+        from: NodeNo,
+        to: NodeNo,
+        arguments: Tokens<'a>,
+        said: &mut Option<Line>,
+    ) -> Result<(), LineFault<'a>>
+        requires { IsFitPair self.now from to }
+        ensures value { PutsEvent self.now result said.new
+            (lie_of (Ok (from, to)) (said_tx self.now.names arguments.entry)) }
+        ensures fit { (sent : ℕ) → OnOk result (IfSome said.new (IsFit self.now sent)) }
     {
         let token = arguments.one()?;
-        Ok(Lied::Tx(self.names.tx_id(token)?))
+        let tx = self.names.tx_id(token)?;
+        self.lies(from, to, Lied::Tx(tx), said);
+        Ok(())
     }
 }
 
