@@ -10,14 +10,12 @@ use Rattle.xl_validations.specs.declared.refusal.ValRefusal.{ValRefusal}
 use Rattle.xl_validations.specs.Rows.{at_member, empty_row, refusal_of, relisted, row_at, row_for, row_of}
 use Rattle.xl_ledger.specs.declared.header.Header.{Header as LedgerHeader}
 use Rattle.xl_ledger.specs.Headers.{header_id}
-use Rattle.xl_ledger.specs.Registries.{Ledgers}
-use Rattle.xl_rounds.specs.Rounds.{Round, is_proposing}
-use Rattle.xl_lists.specs.Lists.{TrustedList}
+use Rattle.xl_rounds.specs.Rounds.{is_proposing}
 use Rattle.xl_core.specs.declared.hearing.Speech.{Speech}
 use Rattle.xl_core.specs.declared.hearing.Speech.TheVariants as speech
 use Rattle.xl_core.specs.declared.refusal.Refusal.TheVariants.{NotAfter}
 use Rattle.xl_core.specs.Answers.{Done}
-use Rattle.xl_core.specs.Node.{Event, Frame, Issue, Node, Relist, Reply, Save, Submit, Timer, at_moment, happens, issued_reply, issued_unless_off, issuing_reply, own_validation, refusing_reply, reply_with, second_of, take, taken_reply, timer_outcome, timer_reply, validates, validating_built}
+use Rattle.xl_core.specs.Node.{Event, Frame, Issue, Node, Relist, Save, Submit, Timer, at_moment, happens, issued_reply, issued_unless_off, issuing_reply, own_validation, refusing_reply, reply_with, second_of, take, taken_reply, timer_outcome, timer_reply, validates, validating_built}
 use Rattle.xl_core.specs.Issuing.Save.{Kept, Failed}
 use Rattle.xl_core.specs.Rest.{IsCurrent}
 use Rattle.xl_core.proofs.Current.{current_then, taken_current}

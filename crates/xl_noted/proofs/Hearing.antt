@@ -1,8 +1,8 @@
 -- What a node hears of a member changes nothing that it holds of the others.
-use Rattle.std.proofs.Common.{◌≡◌, ◌≢◌, ◌⊎◌, ℕ, suc, ◌+◌, ◌-◌, ◌≤◌, ◌/◌, true, false, inl, inr, length, List, [], ◌∷◌, refl, sym, ap, ◌∙◌, subst, arith, cond, Option, Some, None, Result, Ok, Err}
+use Rattle.std.proofs.Common.{◌≡◌, ◌≢◌, ◌⊎◌, ℕ, ◌+◌, ◌-◌, ◌≤◌, ◌/◌, false, inl, inr, length, List, [], ◌∷◌, refl, sym, ap, ◌∙◌, arith, cond, Option, Some, None, Result, Ok, Err}
 use Rattle.std.specs.Prelude.{◌==◌, max, map, if◌then◌else◌}
 use Rattle.std.specs.Option.{is_none, option_and_then}
-use Rattle.std.proofs.lemmas.Bool.{cases_eq, cond_both, cond-false, eqb-true}
+use Rattle.std.proofs.lemmas.Bool.{cond_both, cond-false, eqb-true}
 use Rattle.std.proofs.lemmas.Bool.Decides.{nat_tests}
 use Rattle.std.proofs.lemmas.List.{get_or-set_other}
 use Rattle.xl_base.specs.declared.ids.TxId.{TxId}

@@ -1,6 +1,7 @@
 -- What is told of a node that hears a frame is what it may change.
 use Rattle.std.proofs.Common.{◌≡◌, ℕ, zero, suc, ◌/◌, ◌≤◌, Bool, true, false, List, [], length, arith, refl, ap, sym, ◌∙◌, subst, Option, Some, None, Ok, append-nil}
 use Rattle.std.specs.Prelude.{max, nat_lt, option_map}
+use Rattle.std.specs.Option.{option_and_then}
 use Rattle.std.proofs.lemmas.Bool.{cond-false}
 use Rattle.std.proofs.lemmas.Bool.Decides.{nat_tests}
 use Rattle.xl_base.specs.Refusals.{unless_refused}
@@ -22,29 +23,40 @@ use Rattle.xl_tags.specs.Sealing.{as_sealed, sealed}
 use Rattle.xl_tags.proofs.OpeningLaws.{IsRaw-as_sealed}
 use Rattle.xl_core.specs.declared.event.CoreEvent.{CoreEvent}
 use Rattle.xl_core.specs.declared.event.CoreEvent.TheVariants.{Frame}
-use Rattle.xl_core.specs.Core.{Core, CoreReply}
+use Rattle.xl_core.specs.Core.{Core, CoreReply, core_happens}
 use Rattle.xl_core.specs.declared.hearing.Speech.{Speech}
 use Rattle.xl_core.specs.declared.hearing.Speech.TheVariants as speech
 use Rattle.xl_core.specs.declared.hearing.Spoken.{Spoken}
 use Rattle.xl_core.specs.Hearing.{bytes_as_sealed, said_in, sealed_in, speech_of}
-use Rattle.xl_core.specs.Node.{Node, at_moment, bytes_reply}
+use Rattle.xl_core.specs.Node.{Issue, Node, Save, Timer, at_moment, bytes_reply, happens}
 use Rattle.xl_core.specs.Sending.{blank_frame, has_spelling, sealed_bytes}
 use Rattle.xl_core.proofs.Spelling.{sealed_raw}
+use Rattle.xl_held.specs.Asking.{beat_told, issue_told}
 use Rattle.xl_held.specs.Changes.{changed_lines}
+use Rattle.xl_held.proofs.Asked.{beat_told_so, issue_told_so}
 use Rattle.xl_held.proofs.Untold.{header_told, proposal_told, set_told, tx_told, vote_told}
-use Rattle.xl_noted.specs.declared.noted.Noted.{Noted as Kept}
+use Rattle.xl_noted.specs.declared.asked.NotedBeat.{NotedBeat}
+use Rattle.xl_noted.specs.declared.asked.NotedIssue.{NotedIssue}
+use Rattle.xl_noted.specs.Asking.{IsBeatNoted, is_open, issue_noted}
 use Rattle.xl_noted.specs.Hearing.{LeavesOthers, LeavesRest}
-use Rattle.xl_noted.specs.Noted.{Noted, noted}
-use Rattle.xl_noted.specs.Seen.{noted_seen}
+use Rattle.xl_noted.specs.Noted.{NotedRound, noted}
+use Rattle.xl_noted.specs.Seen.{round_seen}
+use Rattle.xl_noted.proofs.Asking.{beat_leaves, issue_leaves}
+use Rattle.xl_noted.proofs.Currents.{AreCurrent}
 use Rattle.xl_noted.proofs.Hearing.{hearing_leaves, hearing_leaves_rest}
-use Rattle.xl_rounds.specs.Positions.{Positions}
+use Rattle.xl_base.specs.declared.ids.LedgerId.{LedgerId}
+use Rattle.xl_rounds.specs.Positions.{Positions, count}
+use Rattle.xl_sched.specs.declared.event.Ask.{Ask}
+use Rattle.xl_sched.specs.declared.event.Ask.TheVariants as ask
+use Rattle.xl_sched.specs.declared.event.What.{What}
+use Rattle.xl_sched.specs.declared.event.What.TheVariants as what
 use Rattle.xl_sched.specs.declared.event.Event.{Event}
 use Rattle.xl_sched.specs.declared.named.Named.{Named}
 use Rattle.xl_world.specs.declared.place.Fate.TheVariants.{Saved}
 use Rattle.xl_world.specs.declared.place.Place.{Place}
 use Rattle.xl_world.specs.Disk.{answer_of}
 use Rattle.xl_world.specs.Emptying.{event_steps}
-use Rattle.xl_world.specs.Schedule.{after_event}
+use Rattle.xl_world.specs.Schedule.{after_event, event_asked, node_asked, steps_at}
 use Rattle.xl_world.specs.Sending.{Sent, sent_as}
 use Rattle.xl_world.specs.Starts.{IsRun}
 use Rattle.xl_world.specs.World.{Step, World, core_in, disk_after, place_at, reply_at, run}
@@ -54,7 +66,7 @@ use Rattle.xl_world.proofs.Putting.{put_at}
 use Rattle.xl_world.proofs.Settling.{at_its_number}
 use Rattle.xl_tell.specs.declared.before.Before.{Before}
 use Rattle.xl_tell.specs.declared.before.Before.TheVariants as before
-use Rattle.xl_tell.specs.Before.{Delivers, IsBrief, Says, SaysSet, heard_noted, told_at, told_by, told_of}
+use Rattle.xl_tell.specs.Before.{Delivers, IsBrief, Says, SaysSet, Tells, TellsOf, asked_of, heard_noted, number_of, told_at, told_by, told_of}
 use Rattle.xl_tell.specs.Nodes.{changed_at, changed_in, node_of, noted_at}
 use Rattle.xl_tell.specs.Parts.{new_holdings}
 use Rattle.xl_tell.proofs.Currents.{core_is_current}
@@ -126,27 +138,28 @@ none_some x e = cc
 same_core : (x y : Core) → Some x ≡ Some y → x ≡ y
 same_core x y e = cc
 
-pub record HasHeard (w : World) (i at : ℕ) (bytes : List ℕ) (n : Node) : Type 0 where
+pub record HasHappened (w : World) (i : ℕ) (e : CoreEvent) (core : Core) : Type 0 where
   pub later : Core
-  pub there : core_in (run w (event_steps w i (Frame at bytes) Saved)) i ≡ Some later
-  pub node : later.node ≡ (bytes_reply (at_moment at n) bytes).node
+  pub save : Save
+  pub there : core_in (run w (event_steps w i e Saved)) i ≡ Some later
+  pub node : later.node ≡ (core_happens core e save).core.node
 
-has_heard : (w : World) (i at : ℕ) (bytes : List ℕ) (core : Core) → core_in w i ≡ Some core → HasHeard w i at bytes core.node
-has_heard w i at bytes core is = by_place (place_at i w.places) refl is
+pub has_happened : (w : World) (i : ℕ) (e : CoreEvent) (core : Core) → core_in w i ≡ Some core → HasHappened w i e core
+has_happened w i e core is = by_place (place_at i w.places) refl is
   where
-    by_place : (o : Option Place) → place_at i w.places ≡ o → option_map (λ (p : Place). p.core) o ≡ Some core → HasHeard w i at bytes core.node
-    by_place None here e = absurd (none_some core e)
-    by_place (Some p) here e =
-        let event : CoreEvent = Frame at bytes in
-        let r : CoreReply = reply_at p event Saved in
-        let q : Place = record { core = emptied w.numbers r.core; disk = disk_after p event Saved } in
+    by_place : (o : Option Place) → place_at i w.places ≡ o → option_map (λ (p : Place). p.core) o ≡ Some core → HasHappened w i e core
+    by_place None here it = absurd (none_some core it)
+    by_place (Some p) here it =
+        let r : CoreReply = reply_at p e Saved in
+        let q : Place = record { core = emptied w.numbers r.core; disk = disk_after p e Saved } in
         let number : q.core.node.me ≡ i =
-        ap (λ (n : Node). n.me) (emptied_node w.numbers r.core) ∙ ((core_keeps p.core event (answer_of p.disk Saved)).0 ∙ at_its_number i w.places p here) in
-        let ran : run w (event_steps w i event Saved) ≡ emptied_acts w i event Saved (Some p) = event_ran w i event Saved ∙ ap (emptied_acts w i event Saved) here in
+        ap (λ (n : Node). n.me) (emptied_node w.numbers r.core) ∙ ((core_keeps p.core e (answer_of p.disk Saved)).0 ∙ at_its_number i w.places p here) in
+        let ran : run w (event_steps w i e Saved) ≡ emptied_acts w i e Saved (Some p) = event_ran w i e Saved ∙ ap (emptied_acts w i e Saved) here in
         record {
           later = q.core;
+          save = answer_of p.disk Saved;
           there = ap (λ (v : World). core_in v i) ran ∙ ap (option_map (λ (x : Place). x.core)) (put_at i q w.places p number here);
-          node = emptied_node w.numbers r.core ∙ ap (λ (c : Core). (bytes_reply (at_moment at c.node) bytes).node) (same_core p.core core e);
+          node = emptied_node w.numbers r.core ∙ ap (λ (c : Core). (core_happens c e (answer_of p.disk Saved)).core.node) (same_core p.core core it);
         }
 
 -- WHAT IS TOLD
@@ -169,6 +182,13 @@ of_its_number names i n m (speech.Header h) w = refl
 of_its_number names i n m (speech.TxSet ids) w = refl
 of_its_number names i n m (speech.Tx tx) w = refl
 
+-- what is told at a number is told of the node of the part
+told_there : (w : World) (e : Event) (i : ℕ) (core : Core) (names : List Named) → node_of w e.what ≡ Some i → core_in w i ≡ Some core →
+    changed_in names i (noted core.node) (core_in (after_event w e) i) ≡ new_holdings names w e
+told_there w e i core names at there =
+    ap (λ (o : Option Core). changed_at names (Some i) (option_map (λ (c : Core). noted c.node) o) (after_event w e)) (sym there)
+    ∙ ap (λ (o : Option ℕ). changed_at names o (noted_at w o) (after_event w e)) (sym at)
+
 -- what is told of a node that hears a frame of a member within a second
 hearing_told : (names : List Named) (w : World) (e : Event) (frame : Sent) (core : Core) (what : Speech) →
     Delivers w e.what frame → IsRun w → core_in w frame.to ≡ Some core → Says frame what → 1 ≤ frame.from → IsValid core.node.list → is_on core.node.list.members frame.from ≡ true →
@@ -179,7 +199,7 @@ hearing_told names w e frame core what delivers came there says low valid on sam
     let m : ℕ = frame.from in
     let n : Node = core.node in
     let told : Before = heard_noted i n m what in
-    let heard : HasHeard w i e.at frame.bytes n = has_heard w i e.at frame.bytes core there in
+    let heard : HasHappened w i (Frame e.at frame.bytes) core = has_happened w i (Frame e.at frame.bytes) core there in
     let n' : Node = heard.later.node in
     let after : core_in (after_event w e) i ≡ Some heard.later = ap (λ (ss : List Step). core_in (run w ss) i) (delivers.steps e.at) ∙ heard.there in
     let current = core_is_current w came i core there in
@@ -194,22 +214,67 @@ hearing_told names w e frame core what delivers came there says low valid on sam
     of_its_number names i n m what (after_event w e)
     ∙ (ap (told_at names told) after
     ∙ (kind_told names i m n n' what leaves valid on rest
-    ∙ (ap (changed_in names i (noted n)) (sym after)
-    ∙ (ap (λ (o : Option Core). changed_at names (Some i) (option_map (λ (c : Core). noted c.node) o) (after_event w e)) (sym there)
-    ∙ ap (λ (o : Option ℕ). changed_at names o (noted_at w o) (after_event w e)) (sym delivers.node)))))
+    ∙ (ap (changed_in names i (noted n)) (sym after) ∙ told_there w e i core names delivers.node there)))
 
 -- what is told by all that the node held
-pub whole_tells : (w : World) (e : Event) (i : ℕ) (core : Core) (b : Kept) → node_of w e.what ≡ Some i → Some core ≡ core_in w i → noted_seen b ≡ noted core.node → (names : List Named) →
-    told_at names (before.Whole i b) (core_in (after_event w e) i) ≡ new_holdings names w e
-whole_tells w e i core b at there is names =
-    as_changed (core_in (after_event w e) i)
-    ∙ (ap (λ (x : Noted). changed_in names i x (core_in (after_event w e) i)) is
-    ∙ (ap (λ (o : Option Core). changed_at names (Some i) (option_map (λ (c : Core). noted c.node) o) (after_event w e)) there
-    ∙ ap (λ (o : Option ℕ). changed_at names o (noted_at w o) (after_event w e)) (sym at)))
+pub whole_tells : (w : World) (e : Event) (i : ℕ) (core : Core) (b : Before) → node_of w e.what ≡ Some i → Some core ≡ core_in w i → number_of b ≡ Some i →
+    ((names : List Named) (n : Node) → told_of names b n ≡ changed_lines names i (noted core.node) n) → Tells w e b
+whole_tells w e i core b at there number tells names =
+    ap (λ (o : Option ℕ). told_at names b (option_and_then (core_in (after_event w e)) o)) number
+    ∙ (as_changed (core_in (after_event w e) i) ∙ told_there w e i core names at (sym there))
   where
-    as_changed : (o : Option Core) → told_at names (before.Whole i b) o ≡ changed_in names i (noted_seen b) o
+    as_changed : (o : Option Core) → told_at names b o ≡ changed_in names i (noted core.node) o
     as_changed None = refl
-    as_changed (Some c) = refl
+    as_changed (Some c) = tells names c.node
+
+-- what happens at a node that is asked
+asked_node : (at : ℕ) (a : Ask) (core : Core) (save : Save) → (core_happens core (event_asked at a) save).core.node ≡ (happens core.node (asked_of at a) save).node
+asked_node at (ask.Issue node seq id full) core save = refl
+asked_node at (ask.Timer node) core save = refl
+
+-- what is told of it
+pub asked_tells : (w : World) (e : Event) (i : ℕ) (a : Ask) (core : Core) (b : Before) → IsRun w → e.what ≡ what.Ask a → node_asked a ≡ i → Some core ≡ core_in w i →
+    TellsOf i core.node (asked_of e.at a) b → Tells w e b
+asked_tells w e i a core b came is asked there tells names =
+    let event : CoreEvent = event_asked e.at a in
+    let happened : HasHappened w i event core = has_happened w i event core (sym there) in
+    let n' : Node = happened.later.node in
+    let after : core_in (after_event w e) i ≡ Some happened.later =
+    ap (λ (h : What). core_in (run w (steps_at w e.at h)) i) is ∙ (ap (λ (j : ℕ). core_in (run w (event_steps w j event Saved)) i) asked ∙ happened.there) in
+    let node : n' ≡ (happens core.node (asked_of e.at a) happened.save).node = happened.node ∙ asked_node e.at a core happened.save in
+    let told = tells (core_is_current w came i core (sym there)) in
+    let at : node_of w e.what ≡ Some i = ap (node_of w) is ∙ ap (λ (j : ℕ). Some j) asked in
+    ap (λ (o : Option ℕ). told_at names b (option_and_then (core_in (after_event w e)) o)) told.0
+    ∙ (ap (told_at names b) after
+    ∙ (ap (told_of names b) node
+    ∙ (told.1 names happened.save
+    ∙ (ap (changed_lines names i (noted core.node)) (sym node)
+    ∙ (ap (changed_in names i (noted core.node)) (sym after) ∙ told_there w e i core names at (sym there))))))
+
+-- what is noted before an issue tells what is new behind it
+issue_lines : (i at : ℕ) (n : Node) (b : NotedIssue) → b ≡ issue_noted n → IsValid n.list → is_on n.list.members n.me ≡ true → max n.time at / 1000 ≡ n.time / 1000 → AreCurrent n →
+    (seq : ℕ) (id : LedgerId) (full : Bool) (names : List Named) (save : Save) → told_of names (before.Issue i b) (happens n (Issue at seq id full) save).node ≡ changed_lines names i (noted n) (happens n (Issue at seq id full) save).node
+issue_lines i at n b is valid on same current seq id full names save =
+    let later : Node = (happens n (Issue at seq id full) save).node in
+    ap (λ (x : NotedIssue). issue_told names i x later) is ∙ issue_told_so names i n later (issue_leaves at n seq id full save current same) valid on
+
+pub issue_tells_of : (i at : ℕ) (n : Node) (b : NotedIssue) → b ≡ issue_noted n → IsValid n.list → is_on n.list.members n.me ≡ true → max n.time at / 1000 ≡ n.time / 1000 →
+    (seq : ℕ) (id : LedgerId) (full : Bool) → TellsOf i n (Issue at seq id full) (before.Issue i b)
+issue_tells_of i at n b is valid on same seq id full current = (refl, issue_lines i at n b is valid on same current seq id full)
+
+-- so of a timer
+beat_lines : (i at : ℕ) (n : Node) (b : NotedBeat) → IsBeatNoted n b → count n.round.positions ≡ 0 → is_open n.round.phase ≡ true → max n.time at / 1000 ≡ n.time / 1000 → AreCurrent n →
+    (names : List Named) (save : Save) → told_of names (before.Beat i b) (happens n (Timer at) save).node ≡ changed_lines names i (noted n) (happens n (Timer at) save).node
+beat_lines i at n b is nobody opened same current names save =
+    let later : Node = (happens n (Timer at) save).node in
+    ap (λ (t : ℕ). beat_told names i t b.previous (round_seen b.round) later) is.time
+    ∙ (ap (λ (p : ℕ). beat_told names i n.time p (round_seen b.round) later) is.previous
+    ∙ (ap (λ (r : NotedRound). beat_told names i n.time n.round.setting.previous r later) is.round
+    ∙ beat_told_so names i n later (beat_leaves at n save current same opened) nobody))
+
+pub beat_tells_of : (i at : ℕ) (n : Node) (b : NotedBeat) → IsBeatNoted n b → count n.round.positions ≡ 0 → is_open n.round.phase ≡ true → max n.time at / 1000 ≡ n.time / 1000 →
+    TellsOf i n (Timer at) (before.Beat i b)
+beat_tells_of i at n b is nobody opened same current = (refl, beat_lines i at n b is nobody opened same current)
 
 -- nothing is told of a number that has no node, nor of no number
 pub nobody_tells : (w : World) (e : Event) (i : ℕ) → node_of w e.what ≡ Some i → None ≡ core_in w i → (names : List Named) → [] ≡ new_holdings names w e

@@ -1,17 +1,22 @@
 -- What is noted before a part of an event, and what is told by it. Source: what the code of this crate keeps.
-use Rattle.std.specs.Prelude.{◌≡◌, ◌/◌, ℕ, max, true, List, [], Option, Some, None}
+use Rattle.std.specs.Prelude.{◌≡◌, ◌/◌, ℕ, All, max, true, List, [], Option, Some, None}
 use Rattle.std.specs.Option.{option_and_then}
 use Rattle.xl_base.specs.declared.ids.TxId.{TxId}
 use Rattle.xl_core.specs.Core.{Core}
 use Rattle.xl_core.specs.declared.hearing.Speech.{Speech}
 use Rattle.xl_core.specs.declared.hearing.Speech.TheVariants as speech
 use Rattle.xl_core.specs.Hearing.{said_in}
-use Rattle.xl_core.specs.Node.{Node}
+use Rattle.xl_core.specs.Node.{Event as NodeEvent, Issue, Node, Save, Timer, happens, second_of}
+use Rattle.xl_core.specs.Rest.{IsCurrent}
+use Rattle.xl_held.specs.Asking.{beat_told, issue_told}
 use Rattle.xl_held.specs.Changes.{changed_lines}
 use Rattle.xl_held.specs.Hearing.{header_heard, proposal_heard, set_heard, tx_heard, vote_heard}
 use Rattle.xl_lists.specs.Lists.{IsValid, is_on}
 use Rattle.xl_noted.specs.Hearing.{ledgers_noted, pending_noted, position_noted, vote_noted}
-use Rattle.xl_noted.specs.Seen.{noted_seen}
+use Rattle.xl_noted.specs.Noted.{noted}
+use Rattle.xl_noted.specs.Seen.{noted_seen, round_seen}
+use Rattle.xl_sched.specs.declared.event.Ask.{Ask}
+use Rattle.xl_sched.specs.declared.event.Ask.TheVariants as ask
 use Rattle.xl_sched.specs.declared.event.Event.{Event}
 use Rattle.xl_sched.specs.declared.event.What.{What}
 use Rattle.xl_sched.specs.declared.named.Named.{Named}
@@ -33,16 +38,20 @@ number_of (before.Vote i noted) = Some i
 number_of (before.Position i noted) = Some i
 number_of (before.Ledgers i noted) = Some i
 number_of (before.Pending i noted) = Some i
+number_of (before.Issue i noted) = Some i
+number_of (before.Beat i noted) = Some i
 number_of (before.Time i noted) = Some i
 
 -- what is told of a node by what was noted
 abbrev pub told_of : List Named → Before → Node → List ℕ
 told_of names before.Nobody n = []
-told_of names (before.Whole i noted) n = changed_lines names i (noted_seen noted) n
+told_of names (before.Whole i noted) n = changed_lines names i (noted_seen noted.value) n
 told_of names (before.Vote i noted) n = vote_heard names i noted n
 told_of names (before.Position i noted) n = proposal_heard names i noted n
 told_of names (before.Ledgers i noted) n = header_heard names i noted n
 told_of names (before.Pending i noted) n = tx_heard names i noted n
+told_of names (before.Issue i noted) n = issue_told names i noted n
+told_of names (before.Beat i noted) n = beat_told names i noted.time noted.previous (round_seen noted.round) n
 told_of names (before.Time i noted) n = set_heard i noted n
 
 abbrev pub told_at : List Named → Before → Option Core → List ℕ
@@ -73,6 +82,18 @@ pub record SaysSet (frame : Sent) : Type 0 where
 -- by it is told what is told of the part
 abbrev pub Tells : World → Event → Before → Type 0
 Tells w e before = (names : List Named) → told_by names before (after_event w e) ≡ new_holdings names w e
+
+-- what a node is asked at a moment
+abbrev pub asked_of : ℕ → Ask → NodeEvent
+asked_of at (ask.Issue node seq id full) = Issue at seq id full
+asked_of at (ask.Timer node) = Timer at
+
+-- By it is told what is new of the node of a number at which this happened, if each validation that its rows hold was
+-- current.
+abbrev pub TellsOf : ℕ → Node → NodeEvent → Before → Type 0
+TellsOf i n happening before = All (IsCurrent (second_of n)) n.rows → (number_of before ≡ Some i)
+    × ((names : List Named) (save : Save) →
+    told_of names before (happens n happening save).node ≡ changed_lines names i (noted n) (happens n happening save).node)
 
 -- what happens is the delivery of a frame
 pub record Delivers (w : World) (happening : What) (frame : Sent) : Type 0 where

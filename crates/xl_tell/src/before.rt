@@ -1,18 +1,24 @@
 // What is noted of the node at which a part of an event happens.
-ghost use Rattle.std.specs.Prelude.{◌≡◌, ◌≤◌, ◌/◌, max, option_map, true, IfOk, IfSome, IsTrue, Some};
+ghost use Rattle.std.specs.Prelude.{◌≡◌, ◌≤◌, ◌/◌, ℕ, Bool, max, option_map, true, IfOk, IfSome, IsTrue, OnOk, Some};
+ghost use Rattle.xl_base.specs.declared.ids.LedgerId.{LedgerId};
 ghost use Rattle.xl_core.specs.Hearing.{speech_of};
+ghost use Rattle.xl_core.specs.Node.{Issue, Timer};
 ghost use Rattle.xl_lists.specs.Lists.{IsValid, is_on};
-ghost use Rattle.xl_tell.specs.Before.{Delivers, IsBrief, Says, SaysSet, Tells, heard_noted, number_of};
+ghost use Rattle.xl_noted.specs.Asking.{is_open as is_open_by};
+ghost use Rattle.xl_rounds.specs.Positions.{count};
+ghost use Rattle.xl_tell.specs.Before.{Delivers, IsBrief, Says, SaysSet, Tells, TellsOf, asked_of, heard_noted, number_of};
 ghost use Rattle.xl_tell.specs.Nodes.{node_of};
 ghost use Rattle.xl_world.specs.Sending.{body_said, said_to, sent_as};
 ghost use Rattle.xl_world.specs.World.{core_in};
 
-use crate::nodes::{frame_at, node_of as node_number};
+use crate::nodes::{frame_at, node_asked, node_of as node_number};
 use std::alloc::Global;
 use xl_base::{Millis, NodeNo, OutOfMemory};
 use xl_core::Node;
-use xl_noted::{Noted, NotedLedgers, NotedPending, NotedPosition, NotedVote};
-use xl_sched::{Event, What};
+use xl_noted::{
+    Noted, NotedBeat, NotedIssue, NotedLedgers, NotedPending, NotedPosition, NotedVote, is_open,
+};
+use xl_sched::{Ask, Event, What};
 use xl_trie::Trie;
 use xl_wire::{LONGEST_FRAME, Parted, split};
 use xl_world::{Said, Sent, World};
@@ -26,9 +32,10 @@ pub enum Before {
     /// It happens at no node.
     Nobody,
     /// All that the node of this number holds.
+    // Of a size of its own, since all are as large as the largest.
     Whole {
         number: NodeNo,
-        noted: Noted,
+        noted: Box<Noted>,
     },
     /// What it holds that may be new once it has heard a validation.
     Vote {
@@ -50,6 +57,16 @@ pub enum Before {
         number: NodeNo,
         noted: NotedPending,
     },
+    /// What it holds that may be new once it has been asked to issue.
+    Issue {
+        number: NodeNo,
+        noted: NotedIssue,
+    },
+    /// Its time and its round, which alone may be new once a timer has come to it.
+    Beat {
+        number: NodeNo,
+        noted: NotedBeat,
+    },
     /// Its time, which alone may be new once it has heard a set.
     Time {
         number: NodeNo,
@@ -69,6 +86,8 @@ impl Before {
             Before::Position { number, .. } => Some(*number),
             Before::Ledgers { number, .. } => Some(*number),
             Before::Pending { number, .. } => Some(*number),
+            Before::Issue { number, .. } => Some(*number),
+            Before::Beat { number, .. } => Some(*number),
             Before::Time { number, .. } => Some(*number),
         }
     }
@@ -141,72 +160,83 @@ fn note_whole(
     world: &World,
     event: &Event,
     number: NodeNo,
-) -> Result<Before, OutOfMemory>
+    before: &mut Before,
+) -> Result<(), OutOfMemory>
     requires { node_of world.now event.now.what ≡ Some number }
-    ensures { IfOk result (λ before. Tells world.now event.now before) }
+    ensures { OnOk result (Tells world.now event.now before.new) }
 {
     match world.node(number) {
         Some(core) => {
-            let noted = Noted::of(alloc, core.node())?;
-            Ok(Before::Whole { number, noted })
+            let noted = Box::new(alloc, Noted::of(alloc, core.node())?)?;
+            *before = Before::Whole { number, noted };
+            Ok(())
         }
-        None => Ok(Before::Nobody),
+        None => {
+            *before = Before::Nobody;
+            Ok(())
+        }
     }
 }
 
 /// What a node of this number holds that this may change, which a member says.
-fn note_said(node: &Node<Trie>, number: NodeNo, member: NodeNo, said: &Said) -> Before
-    ensures { result ≡ heard_noted number node.now member (speech_of (body_said said.now)) }
+fn note_said(
+    node: &Node<Trie>,
+    number: NodeNo,
+    member: NodeNo,
+    said: &Said,
+    before: &mut Before,
+)
+    ensures { before.new ≡ heard_noted number node.now member (speech_of (body_said said.now)) }
 {
     match said {
-        Said::Validation(_) => Before::Vote {
-            number,
-            noted: NotedVote::of(node, member),
-        },
-        Said::Proposal(_) => Before::Position {
-            number,
-            noted: NotedPosition::of(node, member),
-        },
-        Said::Header(_) => Before::Ledgers {
-            number,
-            noted: NotedLedgers::of(node),
-        },
-        Said::Tx(_) => Before::Pending {
-            number,
-            noted: NotedPending::of(node),
-        },
+        Said::Validation(_) => {
+            let noted = NotedVote::of(node, member);
+            *before = Before::Vote { number, noted };
+        }
+        Said::Proposal(_) => {
+            let noted = NotedPosition::of(node, member);
+            *before = Before::Position { number, noted };
+        }
+        Said::Header(_) => {
+            let noted = NotedLedgers::of(node);
+            *before = Before::Ledgers { number, noted };
+        }
+        Said::Tx(_) => {
+            let noted = NotedPending::of(node);
+            *before = Before::Pending { number, noted };
+        }
     }
 }
 
 /// What the node of a number holds that may be new once it has heard the frame that says this.
-fn note_hearing(world: &World, event: &Event, frame: &Sent<'_>, said: &Said) -> Before
+fn note_hearing(world: &World, event: &Event, frame: &Sent<'_>, said: &Said, before: &mut Before)
     requires delivers { Delivers world.now event.now.what frame.now }
     requires says { Says frame.now (speech_of (body_said said.now)) }
     requires brief { IsBrief world.now frame.now.to event.now.at frame.now.from }
-    ensures { Tells world.now event.now result }
+    ensures { Tells world.now event.now before.new }
 {
     let number = frame.to();
     match world.node(number) {
-        Some(core) => note_said(core.node(), number, frame.from(), said),
-        None => Before::Nobody,
+        Some(core) => note_said(core.node(), number, frame.from(), said, before),
+        None => *before = Before::Nobody,
     }
 }
 
 /// What the node of a number holds that may be new once it has heard the frame that says a set.
-fn note_set(world: &World, event: &Event, frame: &Sent<'_>) -> Before
+fn note_set(world: &World, event: &Event, frame: &Sent<'_>, before: &mut Before)
     requires delivers { Delivers world.now event.now.what frame.now }
     requires says { SaysSet frame.now }
     requires brief { IsBrief world.now frame.now.to event.now.at frame.now.from }
-    ensures { Tells world.now event.now result }
+    ensures { Tells world.now event.now before.new }
 {
     let number = frame.to();
     let _member = frame.from();
     match world.node(number) {
-        Some(core) => Before::Time {
-            number,
-            noted: core.node().time(),
-        },
-        None => Before::Nobody,
+        Some(core) => {
+            let noted = core.node().time();
+            *before = Before::Time { number, noted };
+        }
+        None => *before = Before::Nobody,
     }
 }
 
@@ -217,19 +247,22 @@ fn note_listener(
     event: &Event,
     frame: &Sent<'_>,
     room: &mut [u8; LONGEST_FRAME],
-) -> Result<Before, OutOfMemory>
+    before: &mut Before,
+) -> Result<(), OutOfMemory>
     requires delivers { Delivers world.now event.now.what frame.now }
     requires brief { IsBrief world.now frame.now.to event.now.at frame.now.from }
-    ensures { IfOk result (λ before. Tells world.now event.now before) }
+    ensures { OnOk result (Tells world.now event.now before.new) }
 {
     if let Some(said) = frame.said() {
         saying(frame.from(), frame.to(), said);
-        return Ok(note_hearing(world, event, frame, said));
+        note_hearing(world, event, frame, said, before);
+        return Ok(());
     }
     if is_set(frame, room) {
-        return Ok(note_set(world, event, frame));
+        note_set(world, event, frame, before);
+        return Ok(());
     }
-    note_whole(alloc, world, event, frame.to())
+    note_whole(alloc, world, event, frame.to(), before)
 }
 
 /// What is noted of the receiver of a frame that is delivered.
@@ -239,37 +272,153 @@ fn note_receiver(
     event: &Event,
     frame: &Sent<'_>,
     room: &mut [u8; LONGEST_FRAME],
-) -> Result<Before, OutOfMemory>
+    before: &mut Before,
+) -> Result<(), OutOfMemory>
     requires { Delivers world.now event.now.what frame.now }
-    ensures { IfOk result (λ before. Tells world.now event.now before) }
+    ensures { OnOk result (Tells world.now event.now before.new) }
 {
     if is_brief_at(world, frame.to(), event.at, frame.from()) {
-        return note_listener(alloc, world, event, frame, room);
+        return note_listener(alloc, world, event, frame, room, before);
     }
-    note_whole(alloc, world, event, frame.to())
+    note_whole(alloc, world, event, frame.to(), before)
+}
+
+/// Whether the moment is in the second of the node's time.
+fn is_within(node: &Node<Trie>, at: Millis) -> bool
+    ensures { IsTrue result → max node.now.time at / 1000 ≡ node.now.time / 1000 }
+{
+    node.time().max(at) / 1000 == node.time() / 1000
+}
+
+/// What an issue may change of the node of this number, in the second of its time. Answers whether that was noted.
+fn note_issue(node: &Node<Trie>, number: NodeNo, at: Millis, before: &mut Before) -> bool
+    ensures { IsTrue result → (seq : ℕ) (id : LedgerId) (full : Bool) →
+        TellsOf number node.now (Issue at seq id full) before.new }
+{
+    let list = node.list();
+    let _members = list.members();
+    if !list.has(node.me()) || !is_within(node, at) {
+        return false;
+    }
+    let noted = NotedIssue::of(node);
+    *before = Before::Issue { number, noted };
+    true
+}
+
+/// Whether a timer at that moment changes the node's round alone, in which no member has a position.
+fn is_beat(node: &Node<Trie>, at: Millis) -> bool
+    ensures opened { IsTrue result → is_open_by node.now.round.phase ≡ true }
+    ensures nobody { IsTrue result → count node.now.round.positions ≡ 0 }
+    ensures within { IsTrue result → max node.now.time at / 1000 ≡ node.now.time / 1000 }
+{
+    let round = node.round();
+    is_open(round) && round.proposers() == 0 && is_within(node, at)
+}
+
+/// What a timer may change of the node of this number, if that is its round alone. Answers whether that was noted.
+fn note_beat(
+    alloc: Global,
+    node: &Node<Trie>,
+    number: NodeNo,
+    at: Millis,
+    before: &mut Before,
+) -> Result<bool, OutOfMemory>
+    ensures { IfOk result (λ noted. IsTrue noted → TellsOf number node.now (Timer at) before.new) }
+{
+    if !is_beat(node, at) {
+        return Ok(false);
+    }
+    let noted = NotedBeat::of(alloc, node)?;
+    *before = Before::Beat { number, noted };
+    Ok(true)
+}
+
+/// What may be new of the node of this number once it was asked this, if that is little. Answers whether it was noted.
+fn note_ask(
+    alloc: Global,
+    node: &Node<Trie>,
+    number: NodeNo,
+    at: Millis,
+    ask: &Ask,
+    before: &mut Before,
+) -> Result<bool, OutOfMemory>
+    ensures { IfOk result (λ noted. IsTrue noted → TellsOf number node.now (asked_of at ask.now) before.new) }
+{
+    match ask {
+        Ask::Issue { .. } => Ok(note_issue(node, number, at, before)),
+        Ask::Timer { .. } => note_beat(alloc, node, number, at, before),
+    }
+}
+
+/// What is noted of the node that is asked this.
+fn note_asked(
+    alloc: Global,
+    world: &World,
+    event: &Event,
+    ask: &Ask,
+    before: &mut Before,
+) -> Result<(), OutOfMemory>
+    requires { event.now.what ≡ What.Ask ask.now }
+    ensures { OnOk result (Tells world.now event.now before.new) }
+{
+    let number = node_asked(ask);
+    let _reports = world.reports();
+    let Some(core) = world.node(number) else {
+        *before = Before::Nobody;
+        return Ok(());
+    };
+    if note_ask(alloc, core.node(), number, event.at, ask, before)? {
+        return Ok(());
+    }
+    note_whole(alloc, world, event, number, before)
 }
 
 /// What is noted of the node of a part, if there is one.
-fn note_node(alloc: Global, world: &World, event: &Event) -> Result<Before, OutOfMemory>
-    ensures { IfOk result (λ before. Tells world.now event.now before) }
+fn note_node(
+    alloc: Global,
+    world: &World,
+    event: &Event,
+    before: &mut Before,
+) -> Result<(), OutOfMemory>
+    ensures { OnOk result (Tells world.now event.now before.new) }
 {
     match node_number(world, &event.what) {
-        Some(number) => note_whole(alloc, world, event, number),
-        None => Ok(Before::Nobody),
+        Some(number) => note_whole(alloc, world, event, number, before),
+        None => {
+            *before = Before::Nobody;
+            Ok(())
+        }
+    }
+}
+
+/// What is noted of the node of a part that is no delivery, if there is one.
+fn note_else(
+    alloc: Global,
+    world: &World,
+    event: &Event,
+    before: &mut Before,
+) -> Result<(), OutOfMemory>
+    ensures { OnOk result (Tells world.now event.now before.new) }
+{
+    match &event.what {
+        What::Ask(ask) => note_asked(alloc, world, event, ask, before),
+        _ => note_node(alloc, world, event, before),
     }
 }
 
 /// What is noted before a part of an event. Refused only when memory runs out. The room is written over.
+// What is noted is large, and an answer would be copied on its way.
 pub fn note_before(
     alloc: Global,
     world: &World,
     event: &Event,
     room: &mut [u8; LONGEST_FRAME],
-) -> Result<Before, OutOfMemory>
-    ensures { IfOk result (λ before. Tells world.now event.now before) }
+    before: &mut Before,
+) -> Result<(), OutOfMemory>
+    ensures { OnOk result (Tells world.now event.now before.new) }
 {
     match frame_of(world, &event.what) {
-        Some(frame) => note_receiver(alloc, world, event, &frame, room),
-        None => note_node(alloc, world, event),
+        Some(frame) => note_receiver(alloc, world, event, &frame, room, before),
+        None => note_else(alloc, world, event, before),
     }
 }

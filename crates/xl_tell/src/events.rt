@@ -15,11 +15,12 @@ use std::alloc::Global;
 use xl_base::{Millis, OutOfMemory};
 use xl_running::Running;
 use xl_sched::{Ask, Event, What};
+use xl_told::{Hashed, Lead};
 
 /// Opens the world, unless an event did, and tells what its nodes hold.
 pub fn open_world(
-    alloc: Global,
     running: &mut Running,
+    hashed: &mut Hashed,
     text: &mut String,
 ) -> Result<(), OutOfMemory>
     ensures world { OnOk result (running.new ≡ in_world running.old (world_of running.old)) }
@@ -30,7 +31,7 @@ pub fn open_world(
     if is_open {
         return Ok(());
     }
-    push_all_opened(alloc, text, running.reader(), world_in(running))
+    push_all_opened(text, running.reader(), hashed, world_in(running))
 }
 
 /// The frames that stand behind the mark are delivered, and then the mark moves to the end.
@@ -49,6 +50,7 @@ fn tell_all(
         ++ lines_of_parts running.old.reading.names running.old.reading.lines (world_of running.old)
         (parts_at (world_of running.old) at What.All)) }
 {
+    speller.lead = Lead::of(alloc, running.reader().lines(), at)?;
     let (first, end) = running.undelivered();
     for place in first..end {
         let what = What::Deliver { place: place + 1 };
@@ -75,6 +77,7 @@ fn tell_timers(
         ++ lines_of_parts running.old.reading.names running.old.reading.lines (world_of running.old)
         (parts_at (world_of running.old) at What.Timers)) }
 {
+    speller.lead = Lead::of(alloc, running.reader().lines(), at)?;
     let numbers = running.numbers()?;
     for &node in numbers.as_slice() {
         let what = What::Ask(Ask::Timer { node });

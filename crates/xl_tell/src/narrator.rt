@@ -48,7 +48,7 @@ impl Narrator {
         ensures { OnOk result (goes_on (string_bytes text.new) self.new.running
             ≡ after_line self.old.running (IsEvent event.now)) }
     {
-        open_world(self.alloc, &mut self.running, text)?;
+        open_world(&mut self.running, &mut self.speller.hashed, text)?;
         tell_event(
             self.alloc,
             &mut self.running,

@@ -7,18 +7,19 @@ ghost use Rattle.xl_world.specs.Schedule.{frame_at, node_asked};
 ghost use Rattle.xl_world.specs.World.{core_in};
 
 use crate::before::Before;
-use std::alloc::Global;
 use xl_base::{NodeNo, OutOfMemory};
 use xl_core::Node;
 use xl_held::{
-    push_changed, push_header_heard, push_opened, push_proposal_heard, push_set_heard,
+    push_beat_told, push_changed, push_header_heard, push_issue_told, push_opened, push_proposal_heard, push_set_heard,
     push_tx_heard, push_vote_heard,
 };
 use xl_sched::{Ask, Reader, What};
+use xl_told::Hashed;
 use xl_trie::Trie;
 use xl_world::{Sent, World};
 
-fn node_asked(ask: &Ask) -> NodeNo
+/// The node that is asked.
+pub fn node_asked(ask: &Ask) -> NodeNo
     ensures { result ≡ node_asked ask.now }
 {
     match *ask {
@@ -71,9 +72,9 @@ pub fn node_of(world: &World, what: &What) -> Option<NodeNo>
 
 /// What a node holds that it didn't hold when this was noted.
 fn push_told_of(
-    alloc: Global,
     text: &mut String,
     reader: &Reader,
+    hashed: &mut Hashed,
     before: &Before,
     node: &Node<Trie>,
 ) -> Result<(), OutOfMemory>
@@ -82,18 +83,24 @@ fn push_told_of(
 {
     match before {
         Before::Nobody => Ok(()),
-        Before::Whole { number, noted } => push_changed(alloc, text, reader, *number, noted, node),
+        Before::Whole { number, noted } => push_changed(text, reader, hashed, *number, &**noted, node),
         Before::Vote { number, noted } => {
-            push_vote_heard(alloc, text, reader, *number, noted, node)
+            push_vote_heard(text, reader, hashed, *number, noted, node)
         }
         Before::Position { number, noted } => {
-            push_proposal_heard(alloc, text, reader, *number, noted, node)
+            push_proposal_heard(text, reader, hashed, *number, noted, node)
         }
         Before::Ledgers { number, noted } => {
-            push_header_heard(alloc, text, reader, *number, noted, node)
+            push_header_heard(text, reader, hashed, *number, noted, node)
         }
         Before::Pending { number, noted } => {
-            push_tx_heard(alloc, text, reader, *number, noted, node)
+            push_tx_heard(text, reader, hashed, *number, noted, node)
+        }
+        Before::Issue { number, noted } => {
+            push_issue_told(text, reader, hashed, *number, noted, node)
+        }
+        Before::Beat { number, noted } => {
+            push_beat_told(text, reader, hashed, *number, noted, node)
         }
         Before::Time { number, noted } => push_set_heard(text, *number, *noted, node),
     }
@@ -101,9 +108,9 @@ fn push_told_of(
 
 /// What the node holds that it didn't hold when it was noted.
 pub fn push_told(
-    alloc: Global,
     text: &mut String,
     reader: &Reader,
+    hashed: &mut Hashed,
     before: &Before,
     world: &World,
 ) -> Result<(), OutOfMemory>
@@ -114,16 +121,16 @@ pub fn push_told(
         return Ok(());
     };
     match world.node(number) {
-        Some(core) => push_told_of(alloc, text, reader, before, core.node()),
+        Some(core) => push_told_of(text, reader, hashed, before, core.node()),
         None => Ok(()),
     }
 }
 
 /// What the node of a number holds that was just opened.
 fn push_opened_in(
-    alloc: Global,
     text: &mut String,
     reader: &Reader,
+    hashed: &mut Hashed,
     number: NodeNo,
     world: &World,
 ) -> Result<(), OutOfMemory>
@@ -131,22 +138,22 @@ fn push_opened_in(
         ≡ string_bytes text.old ++ opened_in reader.now.names number (core_in world.now number)) }
 {
     match world.node(number) {
-        Some(core) => push_opened(alloc, text, reader, number, core.node()),
+        Some(core) => push_opened(text, reader, hashed, number, core.node()),
         None => Ok(()),
     }
 }
 
 /// What all nodes hold that were just opened.
 pub fn push_all_opened(
-    alloc: Global,
     text: &mut String,
     reader: &Reader,
+    hashed: &mut Hashed,
     world: &World,
 ) -> Result<(), OutOfMemory>
     ensures { OnOk result (string_bytes text.new ≡ string_bytes text.old ++ all_opened reader.now.names world.now) }
 {
     for &number in world.numbers() {
-        push_opened_in(alloc, text, reader, number, world)?;
+        push_opened_in(text, reader, hashed, number, world)?;
     }
     Ok(())
 }

@@ -6,7 +6,7 @@ ghost use Rattle.xl_running.specs.Running.{happens, world_of};
 ghost use Rattle.xl_tell.specs.Parts.{part_lines};
 ghost use Rattle.xl_world.specs.Schedule.{IsPlausible};
 
-use crate::before::note_before;
+use crate::before::{Before, note_before};
 use crate::nodes::push_told;
 use crate::sent::{Speller, push_sent};
 use std::alloc::Global;
@@ -44,15 +44,23 @@ pub fn tell_part(
         ++ part_lines running.old.reading.names running.old.reading.lines (world_of running.old) event.now) }
 {
     let reader = running.reader();
-    push_event(alloc, text, reader, reader.lines(), event)?;
+    push_event(
+        text,
+        reader,
+        &mut speller.hashed,
+        &speller.lead,
+        reader.lines(),
+        event,
+    )?;
     let first = world_in(running);
     let sent = first.sent().len();
-    let before = note_before(alloc, first, event, &mut speller.room)?;
+    let mut before = Before::Nobody;
+    note_before(alloc, first, event, &mut speller.room, &mut before)?;
     let happened = running.event(event)?;
     let reader = running.reader();
     push_outcomes(alloc, text, reader, reader.lines(), happened.as_slice())?;
     let world = world_in(running);
-    push_sent(alloc, text, reader, speller, world.sent(), sent)?;
-    push_told(alloc, text, reader, &before, world)?;
+    push_sent(text, reader, speller, world.sent(), sent)?;
+    push_told(text, reader, &mut speller.hashed, &before, world)?;
     Ok(())
 }

@@ -10,16 +10,18 @@ ghost use Rattle.xl_world.specs.Sending.{body_said, said_to, sent_as};
 use std::alloc::Global;
 use xl_base::{NodeNo, OutOfMemory};
 use xl_sched::Reader;
-use xl_told::{Hashed, push_body, push_numbered, push_of, push_said};
+use xl_told::{Hashed, Lead, push_body, push_numbered, push_of, push_said};
 use xl_wire::LONGEST_FRAME;
 use xl_world::{Said, Sent, SentFrames};
 
-/// What is kept to spell what frames say: a room for one, and what was hashed last.
+/// What is kept to spell events and what frames say: a room for a frame, what was hashed last, and the first words of
+/// the last event that was taken apart.
 #[derive(Drop)]
 pub struct Speller {
     // A room of its own would be cleared for each frame.
     pub room: Box<[u8; LONGEST_FRAME]>,
-    hashed: Hashed,
+    pub hashed: Hashed,
+    pub lead: Lead,
 }
 
 impl Speller {
@@ -27,14 +29,14 @@ impl Speller {
     pub fn open(alloc: Global) -> Result<Speller, OutOfMemory> {
         Ok(Speller {
             room: Box::new(alloc, [0; LONGEST_FRAME])?,
-            hashed: Hashed::none(),
+            hashed: Hashed::none(alloc)?,
+            lead: Lead::of(alloc, 0, 0)?,
         })
     }
 }
 
 /// What a frame says between these two that says this.
 fn push_value(
-    alloc: Global,
     text: &mut String,
     reader: &Reader,
     hashed: &mut Hashed,
@@ -45,13 +47,12 @@ fn push_value(
     ensures { OnOk result (string_bytes text.new ≡ string_bytes text.old
         ++ said_text reader.now.names (decoded_of (said_to from to (body_said said.now)).bytes)) }
 {
-    push_body(alloc, text, reader, hashed, &said.body())
+    push_body(text, reader, hashed, &said.body())
 }
 
 /// What a frame says, of which these bytes are kept.
 // It doesn't hang on the tag, which is long to compute.
 fn push_kept(
-    alloc: Global,
     text: &mut String,
     reader: &Reader,
     hashed: &mut Hashed,
@@ -62,12 +63,11 @@ fn push_kept(
     ensures { OnOk result (string_bytes text.new
         ≡ string_bytes text.old ++ said_text reader.now.names (decoded_of frame.now.bytes)) }
 {
-    push_said(alloc, text, reader, hashed, kept)
+    push_said(text, reader, hashed, kept)
 }
 
 /// What a frame says that is kept as bytes.
 fn push_bytes(
-    alloc: Global,
     text: &mut String,
     reader: &Reader,
     speller: &mut Speller,
@@ -78,12 +78,11 @@ fn push_bytes(
 {
     let length = frame.put(&mut speller.room);
     let kept = &speller.room[..length];
-    push_kept(alloc, text, reader, &mut speller.hashed, frame, kept)
+    push_kept(text, reader, &mut speller.hashed, frame, kept)
 }
 
 /// What a frame says.
 fn push_frame_said(
-    alloc: Global,
     text: &mut String,
     reader: &Reader,
     speller: &mut Speller,
@@ -95,9 +94,9 @@ fn push_frame_said(
     match frame.said() {
         Some(said) => {
             let (from, to) = (frame.from(), frame.to());
-            push_value(alloc, text, reader, &mut speller.hashed, from, to, said)
+            push_value(text, reader, &mut speller.hashed, from, to, said)
         }
-        None => push_bytes(alloc, text, reader, speller, frame),
+        None => push_bytes(text, reader, speller, frame),
     }
 }
 
@@ -115,7 +114,6 @@ fn push_numbers(text: &mut String, number: usize, frame: &Sent<'_>) -> Result<()
 
 /// A frame of this number.
 fn push_frame(
-    alloc: Global,
     text: &mut String,
     reader: &Reader,
     speller: &mut Speller,
@@ -126,14 +124,13 @@ fn push_frame(
         ≡ string_bytes text.old ++ sent_line reader.now.names number frame.now) }
 {
     push_numbers(text, number, frame)?;
-    push_frame_said(alloc, text, reader, speller, frame)?;
+    push_frame_said(text, reader, speller, frame)?;
     text.push('\n')?;
     Ok(())
 }
 
 /// The frames that were sent, except the first of this number.
 pub fn push_sent(
-    alloc: Global,
     text: &mut String,
     reader: &Reader,
     speller: &mut Speller,
@@ -147,7 +144,7 @@ pub fn push_sent(
         let Some(frame) = sent.get(place) else {
             unreachable!()
         };
-        push_frame(alloc, text, reader, speller, place + 1, &frame)?;
+        push_frame(text, reader, speller, place + 1, &frame)?;
     }
     Ok(())
 }

@@ -121,12 +121,7 @@ fn push_save(
 }
 
 /// Bytes that are handed to a node.
-fn push_raw(
-    text: &mut String,
-    hashed: &Hashed,
-    to: NodeNo,
-    bytes: &[u8],
-) -> Result<(), OutOfMemory>
+fn push_raw(text: &mut String, hashed: &Hashed, to: NodeNo, bytes: &[u8]) -> Result<(), OutOfMemory>
     ensures { OnOk result (string_bytes text.new
         ≡ string_bytes text.old ++ codes "raw " ++ decimal to ++ space ++ encode_lower bytes.now) }
 {

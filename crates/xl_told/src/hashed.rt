@@ -173,7 +173,11 @@ impl Hashed {
     }
 
     /// The digits of an id, added to a text.
-    pub(crate) fn push_digits(&mut self, text: &mut String, id: &LedgerId) -> Result<(), OutOfMemory>
+    pub(crate) fn push_digits(
+        &mut self,
+        text: &mut String,
+        id: &LedgerId,
+    ) -> Result<(), OutOfMemory>
         ensures { OnOk result (string_bytes text.new ≡ string_bytes text.old ++ encode_lower id.now.0) }
     {
         let place = (id.0[0] % 64) as usize;

@@ -1,5 +1,5 @@
 // Words that several lines share, added to a text.
-ghost use Rattle.std.specs.Prelude.{◌≡◌, ◌<◌, ◌++◌, ◌∷◌, codes, decimal, OnOk};
+ghost use Rattle.std.specs.Prelude.{◌≡◌, ◌<◌, ◌/◌, ◌%◌, ◌++◌, ◌∷◌, codes, decimal, OnOk};
 ghost use Rattle.std.specs.List.{flat_map};
 ghost use Rattle.std.specs.String.{string_bytes};
 ghost use Rattle.xl_running.specs.Texts.{id_text, space};
@@ -32,7 +32,30 @@ fn push_digit(text: &mut String, digit: u8) -> Result<(), OutOfMemory>
     Ok(())
 }
 
-/// A number of more digits than two.
+/// Two digits.
+#[inline(always)]
+fn push_pair(text: &mut String, pair: u64) -> Result<(), OutOfMemory>
+    requires { pair < 100 }
+    ensures { OnOk result (string_bytes text.new
+        ≡ string_bytes text.old ++ decimal (pair / 10) ++ decimal (pair % 10)) }
+{
+    push_digit(text, (pair / 10) as u8)?;
+    push_digit(text, (pair % 10) as u8)
+}
+
+/// A number below 100.
+#[inline(always)]
+fn push_short(text: &mut String, number: u64) -> Result<(), OutOfMemory>
+    requires { number < 100 }
+    ensures { OnOk result (string_bytes text.new ≡ string_bytes text.old ++ decimal number) }
+{
+    if number < 10 {
+        return push_digit(text, number as u8);
+    }
+    push_pair(text, number)
+}
+
+/// A number of more than four digits.
 // A formatter of std would take the text away and give it back.
 fn push_digits(text: &mut String, number: u64) -> Result<(), OutOfMemory>
     ensures { OnOk result (string_bytes text.new ≡ string_bytes text.old ++ decimal number) }
@@ -43,16 +66,16 @@ fn push_digits(text: &mut String, number: u64) -> Result<(), OutOfMemory>
 }
 
 /// A number, in decimal digits.
-// Most have one digit or two.
+// Most have few digits.
 pub fn push_number(text: &mut String, number: u64) -> Result<(), OutOfMemory>
     ensures { OnOk result (string_bytes text.new ≡ string_bytes text.old ++ decimal number) }
 {
-    if number < 10 {
-        return push_digit(text, number as u8);
-    }
     if number < 100 {
-        push_digit(text, (number / 10) as u8)?;
-        return push_digit(text, (number % 10) as u8);
+        return push_short(text, number);
+    }
+    if number < 10_000 {
+        push_short(text, number / 100)?;
+        return push_pair(text, number % 100);
     }
     push_digits(text, number)
 }

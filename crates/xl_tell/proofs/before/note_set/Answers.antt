@@ -10,7 +10,7 @@ use Rattle.xl_tell.proofs.before.note_set.Goals as goal
 pub returns-in-Some : goal.returns-in-Some
 returns-in-Some c =
     let frame = c.args.frame.now in
-    λ names. ap (λ (t : ℕ). told_by names (before.Time c.to-number.result t) (after_event c.args.world.now c.args.event.now)) c.time.ensures.value
+    λ names. ap (λ (t : ℕ). told_by names (before.Time c.to-number.result t) (after_event c.args.world.now c.args.event.now)) c.time-noted.ensures.value
     ∙ hearing_tells c.args.world.now c.args.event.now frame c.to-number.result _ c.node-in-Some.result.now (speech.TxSet c.requires.says.ids) c.requires.delivers c.requires.brief c.to-number.ensures c.in-Some.ensures.core
     c.node-in-Some.ensures.value c.requires.says.says (subst (λ (m : ℕ). 1 ≤ m) c.from-member.ensures (omega arith)) names
 

@@ -50,7 +50,7 @@ returns-clause-told c =
     (c.sent-2.ensures ∙ ap (λ (u : World). u.sent) (c.world_in-world.ensures ∙ there)) c.in_ok-push_sent.ensures in
     let held : text4 ≡ text3 ++ new_holdings names w e =
     holdings_written names c.reader-reader-2.result.now.names w c.world_in-first.result.now c.world_in-world.result.now e _ text3 text4 words
-    c.world_in-first.ensures (c.world_in-world.ensures ∙ there) c.in_ok-before.ensures c.in_ok-push_told.ensures in
+    c.world_in-first.ensures (c.world_in-world.ensures ∙ there) c.in_ok-note_before.ensures c.in_ok-push_told.ensures in
     then_written text0 (event_line names n e ++ outcome_lines names n (outcomes w e) ++ new_frames names w (after_event w e)) (new_holdings names w e) text3 text4
     (then_written text0 (event_line names n e ++ outcome_lines names n (outcomes w e)) (new_frames names w (after_event w e)) text2 text3
     (then_written text0 (event_line names n e) (outcome_lines names n (outcomes w e)) text1 text2 first came) frames) held
