@@ -22,3 +22,4 @@ pub mod States
 pub mod Texts
 pub mod Stored
 pub mod Rereading
+pub mod Untagged

@@ -1,6 +1,7 @@
 ghost use Rattle.xl_audit.specs.Laws.{LegalIsRight, RightIsLegal};
 ghost use Rattle.xl_audit.specs.Rereading.{WrittenGetsYes};
 ghost use Rattle.xl_audit.specs.Texts.{NoOfTheText, TextIsJudged, YesOfTheText};
+ghost use Rattle.xl_audit.specs.Untagged.{UntaggedIsLegal};
 ghost use Rattle.xl_audit.specs.Verdicts.{NoNamesTheFirst, YesIsRight};
 
 /// The law of journals that are right, which has no code: their entries are a legal history of the core, and the replies
@@ -37,4 +38,10 @@ pub fn whole_texts()
 /// lines.
 pub fn written_gets_yes()
     ensures { WrittenGetsYes }
+{}
+
+/// The law of journals without keys, which has no code: where each entry is right up to the tags, the history with its
+/// tags put right, or wrong where the node found them so, is legal, and the replies are those of its steps.
+pub fn untagged_is_legal()
+    ensures { UntaggedIsLegal }
 {}

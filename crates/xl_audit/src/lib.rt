@@ -43,7 +43,9 @@ pub use entries::ReadEntry;
 pub use judge::lead;
 pub use judging::{BadLine, Lead, Stage, Step, beyond, ended, push_bad};
 pub use key_ring::KeyRing;
-pub use laws::{legal_is_right, right_is_legal, whole_texts, written_gets_yes, yes_and_no};
+pub use laws::{
+    legal_is_right, right_is_legal, untagged_is_legal, whole_texts, written_gets_yes, yes_and_no,
+};
 pub use limits::{MOST_BYTES, MOST_LINES};
 pub use opening::Opening;
 pub use stepping::AuditedCore;
