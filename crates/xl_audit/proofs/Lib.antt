@@ -22,4 +22,3 @@ pub mod Counting
 pub mod Rereading
 pub mod Leading
 pub mod Staying
-pub mod Untagged

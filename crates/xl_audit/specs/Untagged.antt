@@ -1,109 +1,103 @@
--- Journals without keys: what they say, and when their entries are right.
--- Source: linearizability (Herlihy and Wing, 1990), of a core whose tags are assumed; this project's own formats.
-use Rattle.std.specs.Prelude.{◌≡◌, ℕ, ◌-◌, ◌==◌, Bool, List, [], ◌∷◌, ◌++◌, length, map, filter, take, drop, is_some, codes, if◌then◌else◌}
-use Rattle.std.specs.List.{range_with_len}
+-- What a journal without keys tells, and how its events are taken. Source: this project's own formats.
+use Rattle.std.specs.Prelude.{ℕ, ◌-◌, ◌==◌, ◌&&◌, nat_lt, Bool, true, false, List, ◌++◌, length, map, drop, codes, slice_index_or, slice_set, if◌then◌else◌}
 use Rattle.std.specs.Str.{bytes_eq}
 use Rattle.hex.specs.Hex.{encode_lower}
-use Rattle.xl_tags.specs.Rings.{Ring, key_of}
-use Rattle.xl_tags.specs.Sealing.{before_tag}
+use Rattle.xl_wire.specs.Heads.{Split, split_of}
+use Rattle.xl_wire.specs.Heads.Split.{Whole, Need, Refused as NoFrame}
+use Rattle.xl_wire.specs.Kinds.{span}
+use Rattle.xl_tags.specs.Opening.{is_sealed}
+use Rattle.xl_tags.specs.Rings.{Ring}
 use Rattle.xl_tags.specs.declared.refusal.TagRefusal.TheVariants.{BadTag}
-use Rattle.xl_turns.specs.Histories.{IsLegal}
 use Rattle.xl_core.specs.Answers.{Answer, Refused, Gave}
-use Rattle.xl_core.specs.Core.{Core, core_asks}
+use Rattle.xl_core.specs.Core.{Core}
 use Rattle.xl_core.specs.Hearing.{bytes_as_sealed}
 use Rattle.xl_core.specs.Queues.{stream_of}
 use Rattle.xl_core.specs.Sending.{without_tag}
 use Rattle.xl_core.specs.declared.event.CoreEvent.{CoreEvent}
-use Rattle.xl_core.specs.declared.event.CoreEvent.TheVariants.{Frame}
+use Rattle.xl_core.specs.declared.event.CoreEvent.TheVariants.{Frame, Drain}
 use Rattle.xl_core.specs.declared.refusal.Refusal.TheVariants.{Tag}
 use Rattle.xl_store.specs.declared.entry.Entry.{Entry}
-use Rattle.xl_store.specs.Entries.{IsAllowed, IsOutcome, Leads, entry_of, reply_of}
+use Rattle.xl_store.specs.Entries.{entry_of}
+use Rattle.xl_audit.specs.declared.tagging.Tagging.{Tagging}
+use Rattle.xl_audit.specs.declared.tagging.Tagging.TheVariants.{Tagged, Untagged}
 use Rattle.xl_audit.specs.declared.written.Written.{Written}
-use Rattle.xl_audit.specs.Journals.{members_text, newline}
 use Rattle.xl_audit.specs.Replies.{bytes_text, reply_text}
 
 -- WHAT IS WRITTEN
 
--- the members that a ring has keys for, by rising numbers
-abbrev pub peers_of : Ring → List ℕ
-peers_of ring = filter (λ m. is_some (key_of ring m)) (range_with_len 1 64)
+-- a wrong tag that was read
+abbrev pub bad_tag_text : List ℕ → List ℕ
+bad_tag_text tag = codes "refused 10 " ++ encode_lower tag
 
-abbrev pub peers_text : List ℕ → List ℕ
-peers_text [] = codes "-"
-peers_text (m ∷ ms) = members_text (m ∷ ms)
+-- what a frame is answered: of a wrong tag the one that was read, without the right one
+abbrev pub frame_text : Answer → List ℕ
+frame_text (Refused (Tag (BadTag read computed))) = bad_tag_text read
+frame_text other = reply_text other
 
--- the line that stands in place of the keys
-abbrev pub peers_line : Ring → List ℕ
-peers_line ring = codes "peers " ++ peers_text (peers_of ring) ++ newline
+-- drained frames, their tags cleared
+abbrev pub drained_text : Answer → List ℕ
+drained_text (Gave to frames) = bytes_text (stream_of (map without_tag frames))
+drained_text other = reply_text other
 
--- a reply without computed tags: of a wrong one that was read, it alone, and drained frames with their tags cleared
-abbrev pub untagged_text : Answer → List ℕ
-untagged_text (Refused (Tag (BadTag read computed))) = codes "refused 10 " ++ encode_lower read
-untagged_text (Gave to frames) = bytes_text (stream_of (map without_tag frames))
-untagged_text other = reply_text other
+abbrev pub untagged_text : CoreEvent → Answer → List ℕ
+untagged_text (Frame now bytes) answer = frame_text answer
+untagged_text (Drain member room) answer = drained_text answer
+untagged_text other answer = reply_text answer
 
--- WHICH ENTRIES ARE RIGHT
+-- the text of what is answered to an event
+abbrev pub text_as : Tagging → CoreEvent → Answer → List ℕ
+text_as Tagged event answer = reply_text answer
+text_as Untagged event answer = untagged_text event answer
 
--- whether a reply says that a tag was wrong
-abbrev pub says_bad_tag : List ℕ → Bool
-says_bad_tag reply = bytes_eq (take 11 reply) (codes "refused 10 ")
+-- HOW IT IS TAKEN
 
--- the last 32 bytes, where the tag of a frame stands
+-- the last 32 bytes, the place of a frame's tag
 abbrev pub tag_in : List ℕ → List ℕ
 tag_in bytes = drop (length bytes - 32) bytes
 
--- a tag that isn't this one
-abbrev pub another_tag : List ℕ → List ℕ
-another_tag [] = []
-another_tag (b ∷ bs) = (if b == 0 then 1 else 0) ∷ bs
+-- a frame is marked if its reply says that this tag of its was wrong
+abbrev pub is_marked : CoreEvent → List ℕ → Bool
+is_marked (Frame now bytes) reply = bytes_eq reply (bad_tag_text (tag_in bytes))
+is_marked other reply = false
 
--- a frame with a tag that isn't the right one
+-- whether bytes are one whole frame with the right tag
+abbrev pub carries_tag : Ring → List ℕ → Split → Bool
+carries_tag ring bytes (NoFrame why) = false
+carries_tag ring bytes (Need lack) = false
+carries_tag ring bytes (Whole f) = if nat_lt (span f.body) (length bytes) then false else is_sealed ring f
+
+abbrev pub another_byte : ℕ → ℕ
+another_byte b = if b == 0 then 1 else 0
+
+-- bytes with another one at their end, and so a frame with another tag
+abbrev pub with_another_end : List ℕ → List ℕ
+with_another_end bytes = slice_set bytes (length bytes - 1) (another_byte (slice_index_or bytes (length bytes - 1) 0))
+
+-- bytes that aren't a frame with the right tag: if they are, their tag is made wrong
 abbrev pub bytes_as_spoiled : Ring → List ℕ → List ℕ
-bytes_as_spoiled ring bytes = before_tag bytes ++ another_tag (tag_in (bytes_as_sealed ring bytes))
+bytes_as_spoiled ring bytes = if carries_tag ring bytes (split_of bytes) then with_another_end bytes else bytes
 
--- the event with the tag put right, or wrong if the reply says that it was wrong
-abbrev pub retagged : Ring → List ℕ → CoreEvent → CoreEvent
-retagged ring reply (Frame now bytes) =
-    Frame now (if says_bad_tag reply then bytes_as_spoiled ring bytes else bytes_as_sealed ring bytes)
-retagged ring reply other = other
+-- a marked frame has a wrong tag, and each other one the right tag
+abbrev pub retagged_bytes : Ring → Bool → List ℕ → List ℕ
+retagged_bytes ring marked bytes = if marked then bytes_as_spoiled ring bytes else bytes_as_sealed ring bytes
 
-abbrev pub entry_retagged : Core → Written → Entry
-entry_retagged core w = entry_of (retagged core.node.keys w.reply w.entry.event) w.entry.outcome
+abbrev pub retagged : Ring → Bool → CoreEvent → CoreEvent
+retagged ring marked (Frame now bytes) = Frame now (retagged_bytes ring marked bytes)
+retagged ring marked other = other
 
--- what an answer is written as, of a wrong tag the one that was read in these bytes
-abbrev pub told_untagged : CoreEvent → Answer → List ℕ
-told_untagged (Frame now bytes) (Refused (Tag (BadTag read computed))) = codes "refused 10 " ++ encode_lower (tag_in bytes)
-told_untagged event answer = untagged_text answer
+-- the entry that happened at a core, by what is written
+abbrev pub entry_as : Tagging → Core → Written → Entry
+entry_as Tagged core w = w.entry
+entry_as Untagged core w =
+    entry_of (retagged core.node.keys (is_marked w.entry.event w.reply) w.entry.event) w.entry.outcome
 
--- An entry is right at a core whose tags are assumed: its save can have been answered so, and its reply is the one of
--- the core's step, up to the tags
-pub record IsRightUntagged (core : Core) (w : Written) : Type 0 where
-  pub outcome : IsOutcome (core_asks core (entry_retagged core w).event) w.entry.outcome
-  pub reply : w.reply ≡ told_untagged w.entry.event (reply_of core (entry_retagged core w)).answer
+-- whether it is answered that a tag is wrong
+abbrev pub says_bad_tag : Answer → Bool
+says_bad_tag (Refused (Tag (BadTag read computed))) = true
+says_bad_tag other = false
 
--- each entry is right after those before it
-abbrev pub AreRightUntagged : Core → List Written → Type 0
-AreRightUntagged core [] = Unit {0}
-AreRightUntagged core (w ∷ ws) =
-    IsAllowed core w.entry.event × IsRightUntagged core w
-    × AreRightUntagged (reply_of core (entry_retagged core w)).core ws
-
--- the entries with their tags put right, or wrong
-abbrev pub entries_retagged : Core → List Written → List Entry
-entries_retagged core [] = []
-entries_retagged core (w ∷ ws) =
-    entry_retagged core w ∷ entries_retagged (reply_of core (entry_retagged core w)).core ws
-
--- the replies of a core's steps, up to the tags
-abbrev pub untagged_over : Core → List Written → List (List ℕ)
-untagged_over core [] = []
-untagged_over core (w ∷ ws) =
-    told_untagged w.entry.event (reply_of core (entry_retagged core w)).answer
-    ∷ untagged_over (reply_of core (entry_retagged core w)).core ws
-
--- Under whatever keys the core opens with: the history with its tags put right, or wrong where the node found them so, is
--- legal, and the replies that are written are those of its steps, up to the tags
-abbrev pub UntaggedIsLegal : Type 0
-UntaggedIsLegal =
-    (start : Core) (ws : List Written) → AreRightUntagged start ws →
-    IsLegal Leads start (entries_retagged start ws) × (map (λ w. w.reply) ws ≡ untagged_over start ws)
+-- the reply that is to be written of an answer: that of a marked frame is known, if a tag was wrong
+abbrev pub told_as : Tagging → Written → Answer → List ℕ
+told_as Tagged w answer = reply_text answer
+told_as Untagged w answer =
+    if is_marked w.entry.event w.reply && says_bad_tag answer then w.reply else untagged_text w.entry.event answer

@@ -1,7 +1,6 @@
-ghost use Rattle.xl_audit.specs.Laws.{LegalIsRight, RightIsLegal};
+ghost use Rattle.xl_audit.specs.Laws.{LegalIsRight, RightIsLegal, UntaggedIsLegal};
 ghost use Rattle.xl_audit.specs.Rereading.{WrittenGetsYes};
 ghost use Rattle.xl_audit.specs.Texts.{NoOfTheText, TextIsJudged, YesOfTheText};
-ghost use Rattle.xl_audit.specs.Untagged.{UntaggedIsLegal};
 ghost use Rattle.xl_audit.specs.Verdicts.{NoNamesTheFirst, YesIsRight};
 
 /// The law of journals that are right, which has no code: their entries are a legal history of the core, and the replies
@@ -40,8 +39,8 @@ pub fn written_gets_yes()
     ensures { WrittenGetsYes }
 {}
 
-/// The law of journals without keys, which has no code: where each entry is right up to the tags, the history with its
-/// tags put right, or wrong where the node found them so, is legal, and the replies are those of its steps.
+/// The law of journals without keys, which has no code: if each entry is right, the history with its tags put right, or
+/// wrong if the journal says that they were, is legal, and the replies are those of its steps, except for tags.
 pub fn untagged_is_legal()
     ensures { UntaggedIsLegal }
 {}
