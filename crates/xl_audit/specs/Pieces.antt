@@ -17,8 +17,8 @@ abbrev pub bytes_given : Tagging → Core → ℕ → ℕ → List ℕ
 bytes_given tagging core to room = stream_of (frames_as tagging (frames_in (given_for core to room)))
 
 -- what is left of a drain is still to come, and these bytes were given so far
-pub record HasDrained (tagging : Tagging) (start : Core) (to room : ℕ) (now : Core) (left : ℕ) (given : List ℕ) : Type 0
-    where
+pub record HasDrained (tagging : Tagging) (start : Core) (to room : ℕ) (now : Core) (left : ℕ)
+    (given : List ℕ) : Type 0 where
   pub bytes : bytes_given tagging start to room ≡ given ++ bytes_given tagging now to left
   pub core : after_drain start to room ≡ after_drain now to left
   pub node : now.node ≡ start.node

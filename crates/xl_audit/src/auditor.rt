@@ -135,7 +135,11 @@ impl Auditor {
     }
 
     /// Whether an entry of a journal without keys is right, with this reply.
-    pub(crate) fn judge_untagged(&mut self, entry: &Entry, reply: &[u8]) -> Result<bool, OutOfMemory>
+    pub(crate) fn judge_untagged(
+        &mut self,
+        entry: &Entry,
+        reply: &[u8],
+    ) -> Result<bool, OutOfMemory>
         requires allowed { IsAllowed self.old entry.now.event }
         requires counted { IsCounted entry.now.outcome }
         ensures value { IfOk result (λ right. right

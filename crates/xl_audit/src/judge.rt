@@ -90,10 +90,10 @@ impl Judge {
     /// The last line is cut short.
     fn end_behind(&mut self, entries: u64)
         ensures { state_of self.new ≡ record {
-            lines = self.old.lines;
-            stage = Stage.Heading;
-            tagging = self.old.tagging;
-            cut = Some entries;
+          lines = self.old.lines;
+          stage = Stage.Heading;
+          tagging = self.old.tagging;
+          cut = Some entries;
         } }
     {
         self.stage = Stage::Heading;

@@ -225,11 +225,7 @@ pub fn cut_last(before: Result<u64, BadLine>) -> Came
 }
 
 /// The core opens at once with the public keys of the members that are named, if each listed one is.
-fn open_peered(
-    alloc: Global,
-    opening: Opening,
-    keys: KeyRing,
-) -> Result<(Stage, Step), OutOfMemory>
+fn open_peered(alloc: Global, opening: Opening, keys: KeyRing) -> Result<(Stage, Step), OutOfMemory>
     requires may { MayOpen opening keys }
     ensures step { IfOk result (λ done. step_given done.1 done.0
         ≡ opened_step opening keys (unmet keys opening.list.members)) }

@@ -4,7 +4,10 @@
 //! opens a core anew and steps it by each entry. An entry is right exactly if its save can have been answered so, and
 //! if its reply is the one that the core's step gives.
 //!
-//! It stands on xl_core and on xl_store's journals. Its one contract: where each entry is right, the entries are a legal
+//! A journal without keys is for whoever isn't to learn them. Its auditor has public keys in their place, with which it
+//! puts each tag right, so that everything but the tags is checked.
+//!
+//! It stands on xl_core and on xl_store's journals. Its one contract: if each entry is right, the entries are a legal
 //! history of the core, with the replies that are written.
 //!
 //! ```

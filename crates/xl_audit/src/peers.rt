@@ -1,6 +1,5 @@
 // The members that a journal without keys names.
 ghost use Rattle.std.specs.Prelude.{◌≡◌, ◌⊎◌, Ok, Err, MatchResult};
-ghost use Rattle.xl_sched.specs.Refusals.{GivenMemory};
 ghost use Rattle.xl_sched.specs.declared.refusal.SchedRefusal.TheVariants.{OutOfMemory};
 ghost use Rattle.xl_audit.specs.Peers.{numbers_in, peers_in, with_peer, with_peers};
 

@@ -68,12 +68,7 @@ fn first_bytes(bytes: &[u8], count: usize) -> &[u8]
 }
 
 /// Drains for a peer into a room, with tags or without.
-fn drain_into(
-    core: &mut AuditedCore,
-    member: NodeNo,
-    tagging: Tagging,
-    room: &mut [u8],
-) -> usize
+fn drain_into(core: &mut AuditedCore, member: NodeNo, tagging: Tagging, room: &mut [u8]) -> usize
     requires peer { IsSome (key_of core.old.node.keys member) }
     requires room { longest_frame ≤ length room.old }
     ensures core { core.new ≡ after_drain core.old member (length room.old) }

@@ -1,10 +1,9 @@
 // A core that is stepped by an entry of a journal without keys, and the text of its reply.
-ghost use Rattle.std.specs.Prelude.{◌≡◌, ◌≤◌, ◌++◌, ◌-◌, [], length, drop, IfOk, OnOk};
+ghost use Rattle.std.specs.Prelude.{◌≡◌, ◌≤◌, ◌++◌, [], IfOk, OnOk};
 ghost use Rattle.xl_base.specs.Moments.{greatest_millis};
 ghost use Rattle.xl_wire.specs.Heads.{split_of};
 ghost use Rattle.xl_core.specs.Deeds.{answer_of, event_for};
 ghost use Rattle.xl_core.specs.declared.event.CoreEvent.TheVariants.{Frame};
-ghost use Rattle.xl_core.specs.declared.deed.Deed.TheVariants as deed;
 ghost use Rattle.xl_store.specs.Entries.{IsAllowed};
 ghost use Rattle.xl_audit.specs.Saves.{IsFresh};
 ghost use Rattle.xl_audit.specs.Stepping.{IsOfFrame, Retells, RetellsAs, RetellsDeed};
@@ -144,9 +143,23 @@ fn reply_to_spoiled<T: ReplyText>(
     if carries_tag(core.node().keys(), bytes) {
         let changed = with_another_end(alloc, bytes)?;
         let bytes = changed.as_slice();
-        return reply_to_frame(alloc, core, &Deed::Frame { now, bytes }, keeper, text, answer);
+        return reply_to_frame(
+            alloc,
+            core,
+            &Deed::Frame { now, bytes },
+            keeper,
+            text,
+            answer,
+        );
     }
-    reply_to_frame(alloc, core, &Deed::Frame { now, bytes }, keeper, text, answer)
+    reply_to_frame(
+        alloc,
+        core,
+        &Deed::Frame { now, bytes },
+        keeper,
+        text,
+        answer,
+    )
 }
 
 /// Something happens at the core, as `reply_to` has it, and the text of the reply has no tag that the core computed.
@@ -171,7 +184,14 @@ pub fn reply_untagged<T: ReplyText>(
     match *event {
         CoreEvent::Frame { now, ref bytes } => {
             let bytes = bytes.as_slice();
-            reply_to_frame(alloc, core, &Deed::Frame { now, bytes }, keeper, text, answer)
+            reply_to_frame(
+                alloc,
+                core,
+                &Deed::Frame { now, bytes },
+                keeper,
+                text,
+                answer,
+            )
         }
         CoreEvent::Drain { member, room } => {
             reply_to_drain(alloc, core, member, Tagging::Untagged, room, piece, text)
@@ -230,7 +250,14 @@ pub fn reply_retagged<T: ReplyText>(
             if marked {
                 return reply_to_spoiled(alloc, core, now, bytes, keeper, text, answer);
             }
-            reply_to_frame(alloc, core, &Deed::Sealed { now, bytes }, keeper, text, answer)
+            reply_to_frame(
+                alloc,
+                core,
+                &Deed::Sealed { now, bytes },
+                keeper,
+                text,
+                answer,
+            )
         }
         _ => reply_untagged(alloc, core, event, keeper, piece, text, answer),
     }

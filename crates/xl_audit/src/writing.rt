@@ -222,5 +222,13 @@ pub fn write_untagged_journal<O: Sink>(
     // Nothing is read, and a fault of the sink is answered only if its count rose.
     ensures cause { HasCause (O.faults output.old) (O.faults output.new) result }
 {
-    write_text(alloc, Tagging::Untagged, settings, now, kept, journal, output)
+    write_text(
+        alloc,
+        Tagging::Untagged,
+        settings,
+        now,
+        kept,
+        journal,
+        output,
+    )
 }
