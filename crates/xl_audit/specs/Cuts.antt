@@ -1,6 +1,7 @@
 -- A last line that lacks its newline. Source: text files of POSIX, whose last line may lack it, as that of a process that
 -- was killed; this project's own formats.
-use Rattle.std.specs.Prelude.{ℕ, ◌+◌, ◌==◌, ◌&&◌, Bool, true, false, List, [], ◌∷◌, codes, is_some, Result, Ok, Err, Option, Some, None, if◌then◌else◌}
+use Rattle.std.specs.Prelude.{ℕ, ◌+◌, ◌==◌, ◌&&◌, nat_eq, nat_lt, Bool, true, false, List, length, codes, is_some, Result, Ok, Err, Option, Some, None, if◌then◌else◌}
+use Rattle.std.specs.List.{starts_with}
 use Rattle.std.specs.Str.{bytes_eq}
 use Rattle.xl_tags.specs.Rings.{Ring}
 use Rattle.xl_core.specs.Core.{Core, core_asks}
@@ -25,10 +26,7 @@ use Rattle.xl_audit.specs.Words.{first, tokens}
 
 -- bytes begin others, which go on behind them
 abbrev pub begins : List ℕ → List ℕ → Bool
-begins [] [] = false
-begins [] (b ∷ others) = true
-begins (a ∷ more) [] = false
-begins (a ∷ more) (b ∷ others) = (a == b) && begins more others
+begins front others = nat_lt (length front) (length others) && starts_with nat_eq others front
 
 -- a reply beside the right one
 abbrev pub likeness : List ℕ → List ℕ → Likeness
