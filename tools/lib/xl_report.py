@@ -111,7 +111,14 @@ FLAGS_FORMS = forms(
     'fee node=# seq=# value=#',
     'flags count=#',
 )
-AUDIT_FORMS = forms('yes count=#', 'yes count=# last=(?:cut)', 'no entry=#', 'bad line=# code=(?:48) token=#')
+AUDIT_FORMS = forms(
+    'yes count=#',
+    'yes count=# last=(?:cut)',
+    'yes count=# tags=(?:untagged)',
+    'yes count=# last=(?:cut) tags=(?:untagged)',
+    'no entry=#',
+    'bad line=# code=(?:48) token=#',
+)
 JUDGED_FORMS = forms('journal number=# node=# yes count=#', 'journal number=# node=# no entry=#')
 KEYS_FORMS = forms('keys journal=# journal2=#')
 BLAMED_FORK_FORMS = forms(

@@ -1,8 +1,11 @@
 -- A reply that is told beside a given one.
-use Rattle.std.proofs.Common.{◌≡◌, ◌≢◌, ◌+◌, ◌-◌, ◌==◌, ◌&&◌, not, ℕ, Bool, true, false, List, [], ◌∷◌, ◌++◌, length, take, drop, refl, sym, ap, ◌∙◌, arith}
+use Rattle.std.proofs.Common.{◌≡◌, ◌≢◌, ◌+◌, ◌-◌, ◌==◌, ◌&&◌, ℕ, suc, Bool, true, false, List, [], ◌∷◌, ◌++◌, length, take, drop, refl, sym, ap, ◌∙◌, arith}
+use Rattle.std.specs.Prelude.{nat_eq, nat_lt}
+use Rattle.std.specs.List.{starts_with}
 use Rattle.std.specs.Str.{bytes_eq}
 use Rattle.std.proofs.Math.Seq.{take-add}
-use Rattle.std.proofs.lemmas.Bool.{eq-eqb, eqb-true, ne_eqb}
+use Rattle.std.proofs.lemmas.Bool.{eq-eqb, eqb-true, le-ltb, lt-ltb}
+use Rattle.std.proofs.lemmas.Bool.Decides.{nat_tests}
 use Rattle.std.proofs.lemmas.List.{append-nil, append_cancel_left, take_rest}
 use Rattle.std.proofs.lemmas.Slice.Eq.{bytes_eq-Decides}
 use Rattle.xl_audit.specs.Cuts.{begins}
@@ -42,19 +45,34 @@ more_given given part rest same more none is =
 
 -- A BEGINNING
 
-same_front : (front rest behind : List ℕ) → begins rest behind ≡ begins (front ++ rest) (front ++ behind)
+-- the same, a byte at a time
+abbrev begun : List ℕ → List ℕ → Bool
+begun [] [] = false
+begun [] (b ∷ others) = true
+begun (a ∷ more) [] = false
+begun (a ∷ more) (b ∷ others) = (a == b) && begun more others
+
+swapped : (p q r : Bool) → (p && (q && r)) ≡ (q && (p && r))
+swapped true q r = refl
+swapped false true r = refl
+swapped false false r = refl
+
+less : (m n : ℕ) → nat_lt (suc m) (suc n) ≡ nat_lt m n
+less m n = grind (arith, nat_tests)
+
+begun_is : (front text : List ℕ) → begins front text ≡ begun front text
+begun_is [] [] = refl
+begun_is [] (b ∷ others) = ap (λ (t : Bool). t && true) (lt-ltb 0 (length (b ∷ others)) (omega arith))
+begun_is (a ∷ more) [] = ap (λ (t : Bool). t && starts_with nat_eq [] (a ∷ more)) (le-ltb (length (a ∷ more)) 0 (omega arith))
+begun_is (a ∷ more) (b ∷ others) =
+    ap (λ (t : Bool). t && ((a == b) && starts_with nat_eq others more)) (less (length more) (length others))
+    ∙ swapped (nat_lt (length more) (length others)) (a == b) (starts_with nat_eq others more)
+    ∙ ap (λ (t : Bool). (a == b) && t) (begun_is more others)
+
+same_front : (front rest behind : List ℕ) → begun rest behind ≡ begun (front ++ rest) (front ++ behind)
 same_front [] rest behind = refl
 same_front (a ∷ xs) rest behind =
-    same_front xs rest behind ∙ ap (λ (b : Bool). b && begins (xs ++ rest) (xs ++ behind)) (sym (eq-eqb a a refl))
-
-begins_some : (rest : List ℕ) → not (length rest == 0) ≡ begins [] rest
-begins_some [] = refl
-begins_some (b ∷ ys) = ap not (ne_eqb (length (b ∷ ys)) 0 (λ e. omega (arith, e)))
-
-pub goes_on : (front text rest : List ℕ) → text ≡ front ++ rest → not (length rest == 0) ≡ begins front text
-goes_on front text rest is =
-    begins_some rest ∙ same_front front [] rest ∙ ap (λ (zs : List ℕ). begins zs (front ++ rest)) (append-nil front)
-    ∙ ap (begins front) (sym is)
+    same_front xs rest behind ∙ ap (λ (b : Bool). b && begun (xs ++ rest) (xs ++ behind)) (sym (eq-eqb a a refl))
 
 -- a text that another doesn't begin with, at a byte behind which it may
 later : (a b : ℕ) (xs ys : List ℕ) → (a == b) ≡ true → ((rest : List ℕ) → b ∷ ys ≢ (a ∷ xs) ++ rest)
@@ -62,29 +80,26 @@ later : (a b : ℕ) (xs ys : List ℕ) → (a == b) ≡ true → ((rest : List �
 later a b xs ys same other rest is =
     other rest (ap (λ (zs : List ℕ). b ∷ zs) is ∙ ap (λ (n : ℕ). n ∷ (xs ++ rest)) (sym (eqb-true a b same)))
 
-pub goes_not_on : (front text : List ℕ) → ((rest : List ℕ) → text ≢ front ++ rest) → false ≡ begins front text
-goes_not_on [] text other = absurd (other text refl)
-goes_not_on (a ∷ xs) [] other = refl
-goes_not_on (a ∷ xs) (b ∷ ys) other =
-    elim (a == b) as (λ v. (a == b) ≡ v → false ≡ (v && begins xs ys)) [
-      | true ↦ λ e. goes_not_on xs ys (later a b xs ys e other)
-      | false ↦ λ e. refl
-    ] refl
-
 pub begins_behind : (text front rest behind : List ℕ) → text ≡ front ++ rest
     → begins rest behind ≡ begins text (front ++ behind)
 begins_behind text front rest behind is =
-    same_front front rest behind ∙ ap (λ (zs : List ℕ). begins zs (front ++ behind)) (sym is)
+    begun_is rest behind ∙ same_front front rest behind ∙ ap (λ (zs : List ℕ). begun zs (front ++ behind)) (sym is)
+    ∙ sym (begun_is text (front ++ behind))
 
 flipped : (a b : ℕ) → (a == b) ≡ true → (b == a) ≡ true
 flipped a b e = ap (λ (n : ℕ). n == a) (sym (eqb-true a b e)) ∙ eq-eqb a a refl
 
-pub begins_before : (text front behind : List ℕ) → ((rest : List ℕ) → text ≢ front ++ rest)
-    → begins text front ≡ begins text (front ++ behind)
-begins_before text [] behind other = absurd (other text refl)
-begins_before [] (f ∷ fs) behind other = refl
-begins_before (t ∷ ts) (f ∷ fs) behind other =
-    elim (t == f) as (λ v. (t == f) ≡ v → (v && begins ts fs) ≡ (v && begins ts (fs ++ behind))) [
-      | true ↦ λ e. begins_before ts fs behind (later f t fs ts (flipped t f e) other)
+begun_before : (text front behind : List ℕ) → ((rest : List ℕ) → text ≢ front ++ rest)
+    → begun text front ≡ begun text (front ++ behind)
+begun_before text [] behind other = absurd (other text refl)
+begun_before [] (f ∷ fs) behind other = refl
+begun_before (t ∷ ts) (f ∷ fs) behind other =
+    elim (t == f) as (λ v. (t == f) ≡ v → (v && begun ts fs) ≡ (v && begun ts (fs ++ behind))) [
+      | true ↦ λ e. begun_before ts fs behind (later f t fs ts (flipped t f e) other)
       | false ↦ λ e. refl
     ] refl
+
+pub begins_before : (text front behind : List ℕ) → ((rest : List ℕ) → text ≢ front ++ rest)
+    → begins text front ≡ begins text (front ++ behind)
+begins_before text front behind other =
+    begun_is text front ∙ begun_before text front behind other ∙ sym (begun_is text (front ++ behind))

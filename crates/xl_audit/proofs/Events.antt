@@ -334,3 +334,13 @@ no_key other rest = refl
 pub is_no_key : (w : Written) → bytes_eq (first (tokens (entry_text w))) (codes "key") ≡ false
 is_no_key w =
     ap (λ (ts : List (List ℕ)). bytes_eq (first ts) (codes "key")) (entry_tokens w) ∙ no_key w.entry.event (tail_words w.entry.outcome w.reply)
+
+-- nor that of the members that have keys
+no_peers : (e : CoreEvent) (rest : List (List ℕ)) → bytes_eq (first (event_words e ++ rest)) (codes "peers") ≡ false
+no_peers (event.Frame now bytes) rest = refl
+no_peers other rest = refl
+
+pub is_no_peers : (w : Written) → bytes_eq (first (tokens (entry_text w))) (codes "peers") ≡ false
+is_no_peers w =
+    ap (λ (ts : List (List ℕ)). bytes_eq (first ts) (codes "peers")) (entry_tokens w)
+    ∙ no_peers w.entry.event (tail_words w.entry.outcome w.reply)

@@ -10,9 +10,9 @@ use Rattle.xl_turns.specs.Histories.{IsLegal, Runs}
 use Rattle.xl_core.specs.Core.{Core, core_asks}
 use Rattle.xl_store.specs.declared.entry.Entry.{Entry}
 use Rattle.xl_store.specs.Entries.{IsAllowed, IsOutcome, Leads, reply_of}
-use Rattle.xl_audit.specs.Journals.{entries_text, entry_line}
-use Rattle.xl_audit.specs.Laws.{written_with}
-use Rattle.xl_audit.specs.Rights.{reply_to}
+use Rattle.xl_audit.specs.declared.tagging.Tagging.{Tagging}
+use Rattle.xl_audit.specs.Journals.{entries_text_as, entry_line}
+use Rattle.xl_audit.specs.Laws.{answer_text, written_with}
 
 -- THE NEXT PIECE
 
@@ -44,10 +44,10 @@ module _ (old mid new : Option (List ℕ)) (all piece rest : List ℕ) (so_far :
 
 -- THE NEXT ENTRY
 
-abbrev pub line_of : Core → Entry → List ℕ
-line_of core e = entry_line (written_with e (reply_to core e))
+abbrev pub line_of : Tagging → Core → Entry → List ℕ
+line_of tagging core e = entry_line (written_with e (answer_text tagging core e))
 
-module _ (core : Core) (left : List Entry) (e : Entry) (es : List Entry) (next : left ≡ e ∷ es) where
+module _ (tagging : Tagging) (core : Core) (left : List Entry) (e : Entry) (es : List Entry) (next : left ≡ e ∷ es) where
   next_legal : IsLegal Leads core left → IsLegal Leads core (e ∷ es)
   next_legal legal = subst (IsLegal Leads core) next legal
 
@@ -62,12 +62,12 @@ module _ (core : Core) (left : List Entry) (e : Entry) (es : List Entry) (next :
       let it = next_legal legal in
       (it.0, subst (λ (c : Core). Runs Leads c es it.0) (it.1.1.core ∙ sym is) it.1.2)
 
-  pub next_text : (after : Core) → after ≡ (reply_of core e).core → entries_text core left ≡ line_of core e ++ entries_text after es
-  next_text after is = ap (entries_text core) next ∙ ap (λ (c : Core). line_of core e ++ entries_text c es) (sym is)
+  pub next_text : (after : Core) → after ≡ (reply_of core e).core → entries_text_as tagging core left ≡ line_of tagging core e ++ entries_text_as tagging after es
+  next_text after is = ap (entries_text_as tagging core) next ∙ ap (λ (c : Core). line_of tagging core e ++ entries_text_as tagging c es) (sym is)
 
   -- the same is written, with the next line in front of what is left
   pub next_written : (old mid : Option (List ℕ)) (all : List ℕ) (after : Core) → after ≡ (reply_of core e).core
-      → Written old mid all (entries_text core left) → Written old mid all (line_of core e ++ entries_text after es)
+      → Written old mid all (entries_text_as tagging core left) → Written old mid all (line_of tagging core e ++ entries_text_as tagging after es)
   next_written old mid all after is w = record {
     front = w.front;
     parts = w.parts ∙ ap (λ (xs : List ℕ). w.front ++ xs) (next_text after is);
@@ -79,11 +79,11 @@ pub none_left : {A : Type 0} (r : Option A) (P Q : Type 0) → r ≡ None → If
 none_left None P Q is both = both.0
 none_left (Some x) P Q is both = absurd (cc)
 
-pub last_written : (old mid : Option (List ℕ)) (all : List ℕ) (core : Core) (left : List Entry) → left ≡ []
-    → Written old mid all (entries_text core left) → Written old mid all []
-last_written old mid all core left last w = record {
+pub last_written : (tagging : Tagging) (old mid : Option (List ℕ)) (all : List ℕ) (core : Core) (left : List Entry) → left ≡ []
+    → Written old mid all (entries_text_as tagging core left) → Written old mid all []
+last_written tagging old mid all core left last w = record {
   front = w.front;
-  parts = w.parts ∙ ap (λ (es : List Entry). w.front ++ entries_text core es) last;
+  parts = w.parts ∙ ap (λ (es : List Entry). w.front ++ entries_text_as tagging core es) last;
   held = w.held;
 }
 

@@ -11,6 +11,7 @@ use Rattle.xl_audit.specs.declared.judging.BadLine.TheVariants.{Refused}
 use Rattle.xl_audit.specs.declared.judging.Stage.{Stage}
 use Rattle.xl_audit.specs.declared.judging.Stage.TheVariants.{Heading, Setting, Keying, Judging}
 use Rattle.xl_audit.specs.declared.opening.Opening.{Opening}
+use Rattle.xl_audit.specs.declared.tagging.Tagging.TheVariants.{Tagged}
 use Rattle.xl_audit.specs.declared.written.Written.{Written}
 use Rattle.xl_audit.specs.Auditing.{Step, refuses, judgement, keyed, opening_step}
 use Rattle.xl_audit.specs.Leading.{Lead, leads, read_lead, entry_lead, opening_lead, lead, judged_lead, StepIsLed, IsAskedIn}
@@ -23,19 +24,19 @@ use Rattle.xl_audit.proofs.Fitting.{Holds, entry_fits}
 -- THE STEP
 
 read_is : (core : Core) (entries : ℕ) (r : Result Written SchedRefusal)
-    → judgement core entries r ≡ judged_lead (read_lead (Judging core entries) r)
+    → judgement core entries r ≡ judged_lead Tagged (read_lead (Judging core entries) r)
 read_is core entries (Ok w) = refl
 read_is core entries (Err why) = refl
 
 opening_is : (opening : Opening) (ring : Ring) (o : Option ℕ) (words : List (List ℕ))
-    → opening_step opening ring o words ≡ judged_lead (opening_lead opening ring o words)
+    → opening_step opening ring o words ≡ judged_lead Tagged (opening_lead opening ring o words)
 opening_is opening ring (Some member) words = refl
 opening_is opening ring None words =
     let core : Core = core_of opening ring in read_is core 0 (entry_in core.node.keys words)
 
 -- a choice between a step and what a line leads to
-either_is : (b : Bool) (s t : Step) (l : Lead) → t ≡ judged_lead l
-    → cond b s t ≡ judged_lead (cond b (leads s) l)
+either_is : (b : Bool) (s t : Step) (l : Lead) → t ≡ judged_lead Tagged l
+    → cond b s t ≡ judged_lead Tagged (cond b (leads s) l)
 either_is true s t l is = refl
 either_is false s t l is = is
 

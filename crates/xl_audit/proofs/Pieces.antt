@@ -1,26 +1,34 @@
 -- A drain into a room is a drain into a part of it, and then one into what is left.
 use Rattle.std.proofs.Common.{◌≡◌, ℕ, zero, suc, ◌+◌, ◌-◌, ◌<◌, ◌≤◌, Bool, true, false, cond, List, [], ◌∷◌, ◌++◌, length, set, take, drop, map, arith, refl, ap, sym, ◌∙◌, subst, Option, Some, None, inl, inr}
-use Rattle.std.specs.Prelude.{count_by, nat_le, option_map}
-use Rattle.std.specs.Option.{is_none}
+use Rattle.std.specs.Prelude.{All, IfSome, count_by, nat_le, option_map, replicate}
+use Rattle.std.specs.Option.{is_none, option_and_then}
 use Rattle.std.proofs.lemmas.Bool.{cases_lt, cond-true, cond_both, le-leb, leb-true}
 use Rattle.std.proofs.lemmas.Grind.{flat_map-append}
-use Rattle.std.proofs.lemmas.List.{append_assoc, append-nil, length-append, length-drop, length-take-le, drop-drop, drop-map, drop-append-le, get_or_past, get_or-set_same, set_past, take-append-le, take_all, drop_all}
-use Rattle.std.proofs.lemmas.List.Elements.{filter_map-append}
+use Rattle.std.proofs.lemmas.List.{append_assoc, append-nil, length-append, length-drop, length-take-le, map-append, drop-drop, drop-map, drop-append-le, get_or_past, get_or-set_same, set_past, take-append-le, take_all, drop_all}
+use Rattle.std.proofs.lemmas.List.Elements.{All-append, All-cons, All-head, All-nil, All-tail, filter_map-append}
 use Rattle.std.proofs.lemmas.List.Sums.{sum_by-append}
 use Rattle.std.proofs.Math.Seq.{drop-append-add, drop-length, take-add}
 use Rattle.xl_base.specs.Counts.{one_more}
+use Rattle.xl_wire.specs.Frames.{raw_of}
+use Rattle.xl_wire.specs.declared.body.Body.{Body}
+use Rattle.xl_wire.proofs.RawLaws.{length-raw_bytes}
+use Rattle.xl_tags.specs.Sealing.{sealed}
 use Rattle.xl_queues.specs.Broadcasts.{queue_of}
 use Rattle.xl_queues.specs.Queues.{Backlog, no_items}
 use Rattle.xl_core.specs.Core.{Core, greeted_frames, all_frames, given_for, after_drain}
-use Rattle.xl_core.specs.Greetings.{greeting_at, greeting_frames, further, further_at}
-use Rattle.xl_core.specs.Items.{frame_of, frames_for}
+use Rattle.xl_core.specs.Greetings.{greeting_at, greeting_frames, further, further_at, yet_to_hand}
+use Rattle.xl_core.specs.Items.{body_in, frame_of, frame_for, frames_for, header_body_at}
 use Rattle.xl_core.specs.Node.{Node}
 use Rattle.xl_core.specs.Queues.{waiting_at, at_number, after_taking, count_fitting, that_fit, frames_in, stream_of, lost_more}
+use Rattle.xl_core.specs.Sending.{blank_frame, has_spelling, sealed_bytes, without_tag}
 use Rattle.xl_core.specs.declared.the_core.greeting.Greeting.{Greeting}
 use Rattle.xl_core.specs.declared.item.Item.{Item}
 use Rattle.xl_core.specs.declared.report.Report.{Report}
 use Rattle.xl_core.proofs.Greeted.{fits_front, frames_further, greeting_then}
-use Rattle.xl_audit.specs.Pieces.{bytes_given, handed_out, HasDrained, HasHanded}
+use Rattle.xl_core.proofs.Spelling.{sealed_raw}
+use Rattle.xl_audit.specs.declared.tagging.Tagging.{Tagging}
+use Rattle.xl_audit.specs.declared.tagging.Tagging.TheVariants.{Tagged, Untagged}
+use Rattle.xl_audit.specs.Pieces.{bytes_given, frames_as, handed_out, HasDrained, HasHanded}
 
 abbrev Frames : Type 0
 Frames = List (Option (List ℕ))
@@ -270,9 +278,19 @@ module _ (core : Core) (to part room : ℕ) (le : part ≤ room) where
   joined_both fs gs =
       ap stream_of (filter_map-append (λ (o : Option (List ℕ)). o) fs gs) ∙ flat_map-append (λ (f : List ℕ). f) (frames_in fs) (frames_in gs)
 
-  pub bytes_both : bytes_given core to room ≡ bytes_given core to part ++ bytes_given after to left
-  bytes_both =
-      ap (λ (fs : Frames). stream_of (frames_in fs)) given_both ∙ joined_both (given_for core to part) (given_for after to left)
+  told_both : (tagging : Tagging) (fs gs : Frames)
+      → stream_of (frames_as tagging (frames_in (fs ++ gs))) ≡ stream_of (frames_as tagging (frames_in fs)) ++ stream_of (frames_as tagging (frames_in gs))
+  told_both Tagged fs gs = joined_both fs gs
+  told_both Untagged fs gs =
+      ap (λ (xs : List (List ℕ)). stream_of (map without_tag xs)) (filter_map-append (λ (o : Option (List ℕ)). o) fs gs)
+      ∙ ap stream_of (map-append without_tag (frames_in fs) (frames_in gs))
+      ∙ flat_map-append (λ (f : List ℕ). f) (map without_tag (frames_in fs)) (map without_tag (frames_in gs))
+
+  pub bytes_both : (tagging : Tagging)
+      → bytes_given tagging core to room ≡ bytes_given tagging core to part ++ bytes_given tagging after to left
+  bytes_both tagging =
+      ap (λ (fs : Frames). stream_of (frames_as tagging (frames_in fs))) given_both
+      ∙ told_both tagging (given_for core to part) (given_for after to left)
 
   pub part_within : bytes_in (given_for core to part) ≤ part
   part_within = given_within (all_frames core to) part
@@ -315,35 +333,99 @@ fewer xs zero lt = absurd (omega (arith, lt))
 fewer [] (suc n) lt = omega arith
 fewer (x ∷ xs) (suc n) lt = omega (arith, fewer xs n (omega (arith, lt)))
 
+-- WITHOUT TAGS
+
+abbrev IsLong : List ℕ → Type 0
+IsLong f = 32 ≤ length f
+
+abbrev IfLong : Option (List ℕ) → Type 0
+IfLong o = IfSome o IsLong
+
+-- each frame has a place for its tag
+framed_long : (n : Node) (to : ℕ) (body : Body) → IfLong (frame_for n to body)
+framed_long n to body =
+    cond_both (has_spelling n.me to body) (Some (sealed_bytes n.keys n.me to body)) None IfLong
+    (λ spelled.
+    let s = sealed_raw n.keys n.me to body spelled in
+    omega (arith, length-raw_bytes (sealed n.keys (raw_of (blank_frame n.me to body))) s.tag))
+    (λ _. tt)
+
+item_long : (n : Node) (to : ℕ) (item : Item) → IfLong (frame_of n to item)
+item_long n to item = said (body_in n item)
+  where
+    said : (o : Option Body) → IfLong (option_and_then (frame_for n to) o)
+    said None = tt
+    said (Some body) = framed_long n to body
+
+map_long : {X : Type 0} (h : X → Option (List ℕ)) → ((x : X) → IfLong (h x)) → (xs : List X) → All IfLong (map h xs)
+map_long h each [] = All-nil IfLong
+map_long h each (x ∷ xs) = All-cons IfLong (h x) (map h xs) (each x) (map_long h each xs)
+
+greeting_long : (n : Node) (to : ℕ) (o : Option Greeting) → All IfLong (greeting_frames n o to)
+greeting_long n to None = All-nil IfLong
+greeting_long n to (Some g) =
+    map_long (λ ledger. frame_for n to (header_body_at n ledger)) (λ ledger. framed_long n to (header_body_at n ledger)) (yet_to_hand n.ledgers.headers g)
+
+all_long : (core : Core) (to : ℕ) → All IfLong (all_frames core to)
+all_long core to =
+    All-append IfLong (greeted_frames core to) (frames_for core.node core.waiting to) (greeting_long core.node to (greeting_at core.greetings to))
+    (map_long (frame_of core.node to) (item_long core.node to) (waiting_at core.waiting to).items)
+
+cleared_long : (f : List ℕ) → 32 ≤ length f → length (without_tag f) ≡ length f
+cleared_long f long =
+    let front : length (take (length f - 32) f) ≡ length f - 32 = length-take-le (length f - 32) f (omega arith) in
+    omega (arith, long, front, length-append (take (length f - 32) f) (replicate 32 0))
+
+-- the front of these frames without tags is as long
+front_long : (n : ℕ) (fs : Frames) → All IfLong fs
+    → length (stream_of (map without_tag (frames_in (take n fs)))) ≡ bytes_in (take n fs)
+front_long zero fs all = refl
+front_long (suc n) [] all = refl
+front_long (suc n) (None ∷ fs) all = front_long n fs (All-tail IfLong None fs all)
+front_long (suc n) (Some f ∷ fs) all =
+    let here : 32 ≤ length f = All-head IfLong (Some f) fs all in
+    omega (
+      arith,
+      cleared_long f here,
+      front_long n fs (All-tail IfLong (Some f) fs all),
+      length-append (without_tag f) (stream_of (map without_tag (frames_in (take n fs)))),
+      length-append f (stream_of (frames_in (take n fs))),
+    )
+
+pub given_long : (tagging : Tagging) (core : Core) (to room : ℕ)
+    → length (bytes_given tagging core to room) ≡ bytes_in (given_for core to room)
+given_long Tagged core to room = refl
+given_long Untagged core to room = front_long (count_fitting (all_frames core to) room) (all_frames core to) (all_long core to)
+
 -- A DRAIN SO FAR
 
-module _ (start : Core) (to room : ℕ) (now after : Core) (left part count : ℕ) (given more : List ℕ)
-    (so_far : HasDrained start to room now left given) (is : after ≡ after_drain now to part)
-    (adds : more ≡ given ++ bytes_given now to part) where
+module _ (tagging : Tagging) (start : Core) (to room : ℕ) (now after : Core) (left part count : ℕ) (given more : List ℕ)
+    (so_far : HasDrained tagging start to room now left given) (is : after ≡ after_drain now to part)
+    (adds : more ≡ given ++ bytes_given tagging now to part) where
   -- a piece more was drained
-  pub drain_more : part ≤ left → count ≡ bytes_in (given_for now to part) → HasDrained start to room after (left - count) more
+  pub drain_more : part ≤ left → count ≡ bytes_in (given_for now to part) → HasDrained tagging start to room after (left - count) more
   drain_more le many =
-      subst (λ (k : ℕ). HasDrained start to room after (left - k) more) (sym many)
-      (subst (λ (c : Core). HasDrained start to room c (left - bytes_in (given_for now to part)) more) (sym is)
-      (subst (λ (bytes : List ℕ). HasDrained start to room (after_drain now to part) (left - bytes_in (given_for now to part)) bytes) (sym adds) (record {
-        bytes = so_far.bytes ∙ ap (λ (bytes : List ℕ). given ++ bytes) (bytes_both now to part left le)
-            ∙ sym (append_assoc given (bytes_given now to part) _);
+      subst (λ (k : ℕ). HasDrained tagging start to room after (left - k) more) (sym many)
+      (subst (λ (c : Core). HasDrained tagging start to room c (left - bytes_in (given_for now to part)) more) (sym is)
+      (subst (λ (bytes : List ℕ). HasDrained tagging start to room (after_drain now to part) (left - bytes_in (given_for now to part)) bytes) (sym adds) (record {
+        bytes = so_far.bytes ∙ ap (λ (bytes : List ℕ). given ++ bytes) (bytes_both now to part left le tagging)
+            ∙ sym (append_assoc given (bytes_given tagging now to part) _);
         core = so_far.core ∙ drained_both now to part left le;
         node = so_far.node;
       })))
 
   -- nothing is left that is given
-  pub drain_over : frames_in (all_frames now to) ≡ [] → (after ≡ after_drain start to room) × (more ≡ bytes_given start to room)
+  pub drain_over : frames_in (all_frames now to) ≡ [] → (after ≡ after_drain start to room) × (more ≡ bytes_given tagging start to room)
   drain_over none = (
     is ∙ same_drained now to part left none ∙ sym so_far.core,
-    adds ∙ ap (λ (fs : Frames). given ++ stream_of (frames_in fs)) (same_given now to part left none) ∙ sym so_far.bytes,
+    adds ∙ ap (λ (fs : Frames). given ++ stream_of (frames_as tagging (frames_in fs))) (same_given now to part left none) ∙ sym so_far.bytes,
   )
 
   -- or the whole rest was drained
-  pub drain_all : part ≡ left → (after ≡ after_drain start to room) × (more ≡ bytes_given start to room)
+  pub drain_all : part ≡ left → (after ≡ after_drain start to room) × (more ≡ bytes_given tagging start to room)
   drain_all same = (
     is ∙ ap (after_drain now to) same ∙ sym so_far.core,
-    adds ∙ ap (λ (k : ℕ). given ++ bytes_given now to k) same ∙ sym so_far.bytes,
+    adds ∙ ap (λ (k : ℕ). given ++ bytes_given tagging now to k) same ∙ sym so_far.bytes,
   )
 
 -- REPORTS SO FAR

@@ -1,6 +1,6 @@
 -- What is written of a legal history is read back, and gets yes.
 use Rattle.std.proofs.Common.{◌≡◌, ◌≢◌, ◌+◌, ◌-◌, ◌<◌, ◌≤◌, ◌==◌, ◌||◌, ◌&&◌, not, ℕ, zero, suc, Bool, true, false, List, [], ◌∷◌, ◌++◌, length, Result, Option, Some, None, Ok, Err, refl, ap, sym, ◌∙◌, subst, arith, append_assoc, codes}
-use Rattle.std.specs.Prelude.{All, IfSome, IsSome, OnOk, is_some, find}
+use Rattle.std.specs.Prelude.{All, IfSome, IsSome, OnOk, is_some, find, if◌then◌else◌}
 use Rattle.std.specs.List.{range_with_len, flat_map}
 use Rattle.std.specs.Str.{bytes_eq}
 use Rattle.std.proofs.lemmas.Bool.{cond-false, cond-true, le-ltb, lt-ltb, ne_eqb, eqb-true}
@@ -25,10 +25,11 @@ use Rattle.xl_audit.specs.declared.judging.Stage.{Stage}
 use Rattle.xl_audit.specs.declared.judging.Stage.TheVariants.{Heading, Setting, Keying, Judging}
 use Rattle.xl_audit.specs.Limits.{most_bytes, most_lines}
 use Rattle.xl_audit.specs.declared.opening.Opening.{Opening}
+use Rattle.xl_audit.specs.declared.tagging.Tagging.TheVariants.{Tagged, Untagged}
 use Rattle.xl_audit.specs.declared.written.Written.{Written}
 use Rattle.xl_audit.specs.Auditing.{Step, goes_on, wrong, refuses, judgement, entry_step, opening_step, keyed, set, unless_keyless, ended, step, yes_line}
 use Rattle.xl_audit.specs.Audits.{audit_of, limits, line_step_of, rules, told_at_end}
-use Rattle.xl_audit.specs.Cuts.{whole}
+use Rattle.xl_audit.specs.Cuts.{came_at, names_peers, peers_step, whole}
 use Rattle.xl_audit.specs.Journals.{entries_text, head_text, journal_text, key_lines, key_text, settings_line, start_of}
 use Rattle.xl_audit.specs.Laws.{written_with}
 use Rattle.xl_audit.specs.Opening.{core_of, is_unmet, key_in, unmet}
@@ -38,9 +39,9 @@ use Rattle.xl_base.specs.Ids.{IsId}
 use Rattle.xl_audit.specs.Stored.{IsStored, HasIds}
 use Rattle.xl_audit.specs.Words.{first, tokens}
 use Rattle.xl_audit.proofs.Counting.{lines_are, lines_in, one_more, entry_lines, keys_lines}
-use Rattle.xl_audit.proofs.Events.{entry_text, entry_line_is, text_line, entry_again, counted_of, is_no_key}
+use Rattle.xl_audit.proofs.Events.{entry_text, entry_line_is, text_line, entry_again, counted_of, is_no_key, is_no_peers}
 use Rattle.xl_audit.proofs.Heading.{settings_text, settings_line_is, settings_one_line, settings_again, opening_for, Places, ring_of, key_line, key_one_line, key_tokens, key_there, key_again, blank, no_keys_is, keys_text, key_text_is, keys_text_is}
-use Rattle.xl_audit.proofs.Judged.{behind, taken, is_right_of}
+use Rattle.xl_audit.proofs.Judged.{behind, step_behind, taken, is_right_of}
 use Rattle.xl_audit.proofs.Replying.{reply_line}
 use Rattle.xl_audit.proofs.Spelling.{is_line}
 
@@ -55,16 +56,23 @@ record KeepsLimits (text : List ℕ) : Type 0 where
 record IsAt (told : Told) (stage : Stage) (text : List ℕ) : Type 0 where
   left : ℕ
   n : ℕ
-  same : told ≡ told_from limits rules left (behind n stage) (lines_of text)
+  same : told ≡ told_from limits rules left (behind n Tagged stage) (lines_of text)
   few : length (lines_of text) ≤ left
   within : n + length (lines_of text) ≤ most_lines
   short : All (λ line. length line.bytes ≤ most_bytes) (lines_of text)
 
+-- a line that names no members
+unnamed : (n : ℕ) (stage : Stage) (line : Line) → names_peers n stage line.bytes ≡ false
+    → step_behind n Tagged stage line ≡ line_step_of n Tagged None (came_at stage line.bytes line.ended)
+unnamed n stage line none =
+    ap (λ (b : Bool). line_step_of n (if b then Untagged else Tagged) None (if b then whole (peers_step stage line.bytes) else came_at stage line.bytes line.ended)) none
+
 -- the first line is in order
-one_line : (told : Told) (stage next : Stage) (text rest : List ℕ) → is_line text ≡ true → step stage text ≡ goes_on next
+one_line : (told : Told) (stage next : Stage) (text rest : List ℕ) → is_line text ≡ true
+    → ((n : ℕ) → names_peers n stage text ≡ false) → step stage text ≡ goes_on next
     → IsAt told stage (text ++ 10 ∷ rest) → IsAt told next rest
 unfolding told_by
-one_line told stage next text rest plain leads at =
+one_line told stage next text rest plain quiet leads at =
     let line : Line = record { bytes = text; ended = true } in
     let parts : lines_of (text ++ 10 ∷ rest) ≡ line ∷ lines_of rest = lines_are text rest plain in
     let all : All (λ l. length l.bytes ≤ most_bytes) (line ∷ lines_of rest) = subst (All (λ l. length l.bytes ≤ most_bytes)) parts at.short in
@@ -74,11 +82,12 @@ one_line told stage next text rest plain leads at =
       left = at.left - 1;
       n = at.n + 1;
       same = at.same
-          ∙ ap (told_from limits rules at.left (behind at.n stage)) parts
+          ∙ ap (told_from limits rules at.left (behind at.n Tagged stage)) parts
           ∙ ap (told_by (λ a. told_from limits rules (at.left - 1) a (lines_of rest)))
           (taken at.left at.n line (le-ltb most_bytes (length text) short) (lt-ltb 0 at.left (omega (arith, at.few, long)))
-          (le-ltb most_bytes (length text) short) (fewer at.n (omega (arith, at.within, long))) stage
-          ∙ ap (λ (s : Step). line_step_of at.n None (whole s)) leads);
+          (le-ltb most_bytes (length text) short) (fewer at.n (omega (arith, at.within, long))) Tagged stage
+          ∙ unnamed at.n stage line (quiet at.n)
+          ∙ ap (λ (s : Step). line_step_of at.n Tagged None (whole s)) leads);
       few = omega (arith, at.few, long);
       within = omega (arith, at.within, long);
       short = All-tail (λ l. length l.bytes ≤ most_bytes) line (lines_of rest) all;
@@ -92,11 +101,13 @@ one_line told stage next text rest plain leads at =
 -- a stage at which entries are judged by a core, behind so many
 record IsOpen (stage : Stage) (core : Core) (entries : ℕ) : Type 0 where
   judges : (line : List ℕ) → bytes_eq (first (tokens line)) (codes "key") ≡ false → step stage line ≡ entry_step core entries (tokens line)
+  quiet : (line : List ℕ) → bytes_eq (first (tokens line)) (codes "peers") ≡ false → (n : ℕ) → names_peers n stage line ≡ false
   ends : ended stage ≡ Ok entries
 
 open_judging : (core : Core) (entries : ℕ) → IsOpen (Judging core entries) core entries
 open_judging core entries = record {
   judges = λ line no. cond-false (bytes_eq (first (tokens line)) (codes "key")) (refuses (Refused (Late (first (tokens line))))) (entry_step core entries (tokens line)) no;
+  quiet = λ line no n. refl;
   ends = refl;
 }
 
@@ -105,6 +116,7 @@ open_keying opening ring met = record {
   judges = λ line no.
       cond-false (bytes_eq (first (tokens line)) (codes "key")) (keyed opening (key_in ring (tokens line))) (opening_step opening ring (unmet ring opening.list.members) (tokens line)) no
       ∙ ap (λ (o : Option ℕ). opening_step opening ring o (tokens line)) met;
+  quiet = λ line no n. ap (λ (b : Bool). b && (n == 2)) no;
   ends = ap unless_keyless met;
 }
 
@@ -121,12 +133,13 @@ told_entries : (told : Told) (stage : Stage) (core : Core) (k : ℕ) (es : List 
     → IsAt told stage (entries_text core es) → told ≡ closes (yes_line (k + length es)) Good
 told_entries told stage core k [] opened legal stored at =
     let same : k ≡ k + 0 = omega arith in
-    at.same ∙ ap (told_at_end (at.n + 1)) opened.ends ∙ ap (λ (n : ℕ). closes (yes_line n) Good) same
+    at.same ∙ ap (told_at_end (at.n + 1) Tagged) opened.ends ∙ ap (λ (n : ℕ). closes (yes_line n) Good) same
 told_entries told stage core k (e ∷ es) opened legal stored at =
     let w : Written = written_with e (reply_to core e) in
     let after : Core = (reply_of core e).core in
     let next : IsAt told (Judging after (k + 1)) (entries_text after es) =
     one_line told stage (Judging after (k + 1)) (entry_text w) (entries_text after es) (text_line w (reply_line (reply_of core e).answer))
+    (opened.quiet (entry_text w) (is_no_peers w))
     (entry_leads stage core k e legal.1.0 opened legal.1.1 (All-head IsStored e es stored))
     (subst (IsAt told stage) (entry_line_is w (entries_text after es)) at) in
     let sum : k + 1 + length es ≡ k + suc (length es) = omega arith in
@@ -138,6 +151,9 @@ told_entries told stage core k (e ∷ es) opened legal stored at =
 
 is_the_key : (m : ℕ) (key : List ℕ) → bytes_eq (first (tokens (key_line m key))) (codes "key") ≡ true
 is_the_key m key = ap (λ (ts : List (List ℕ)). bytes_eq (first ts) (codes "key")) (key_tokens m key)
+
+is_no_names : (m : ℕ) (key : List ℕ) → bytes_eq (first (tokens (key_line m key))) (codes "peers") ≡ false
+is_no_names m key = ap (λ (ts : List (List ℕ)). bytes_eq (first ts) (codes "peers")) (key_tokens m key)
 
 module _ (told : Told) (opening : Opening) (me : ℕ) (whole : Places) (rest : List ℕ) (long : length whole ≤ 64)
     (ids : HasIds (ring_of me whole)) (own : key_of (ring_of me whole) me ≡ None) where
@@ -167,7 +183,7 @@ module _ (told : Told) (opening : Opening) (me : ℕ) (whole : Places) (rest : L
       told_keys (n + 1) (done ++ Some key ∷ []) os next (parts ∙ sym (append_assoc done (Some key ∷ []) os)) (sym (append_assoc done (Some key ∷ []) (blank os)))
       (omega (arith, is, length-append done (Some key ∷ [])))
       (one_line told (Keying opening (ring_of me (done ++ None ∷ blank os))) (Keying opening (ring_of me next)) (key_line (n + 1) key) (keys_text (n + 1) os ++ rest)
-      (key_one_line (n + 1) key) (key_leads n done os key parts is)
+      (key_one_line (n + 1) key) (λ k. ap (λ (b : Bool). b && (k == 2)) (is_no_names (n + 1) key)) (key_leads n done os key parts is)
       (subst (IsAt told (Keying opening (ring_of me (done ++ None ∷ blank os)))) (key_text_is n key (keys_text (n + 1) os) rest)
       (subst (λ (ks : Places). IsAt told (Keying opening (ring_of me ks)) ((key_text (n + 1) (Some key) ++ keys_text (n + 1) os) ++ rest)) so_far at)))
 
@@ -256,10 +272,10 @@ written_gets_yes settings now kept es may stored legal few short =
     let lines : lines_in (journal_text settings now kept es) ≤ 66 + length es = text_lines settings now kept es places in
     let keeps : KeepsLimits (journal_text settings now kept es) = record { lines = omega (arith, lines, few); bytes = short } in
     let headed : IsAt told Setting (settings_text settings now kept ++ 10 ∷ (keys ++ entries)) =
-    one_line told Heading Setting (codes "xl-journal 1") (settings_text settings now kept ++ 10 ∷ (keys ++ entries)) refl refl
+    one_line told Heading Setting (codes "xl-journal 1") (settings_text settings now kept ++ 10 ∷ (keys ++ entries)) refl (λ n. refl) refl
     (subst (IsAt told Heading) (head_is settings now kept entries places) (at_start (journal_text settings now kept es) keeps)) in
     let set_up : IsAt told (Keying opening (no_keys settings.me)) (keys ++ entries) =
-    one_line told Setting (Keying opening (no_keys settings.me)) (settings_text settings now kept) (keys ++ entries) (settings_one_line settings now kept)
+    one_line told Setting (Keying opening (no_keys settings.me)) (settings_text settings now kept) (keys ++ entries) (settings_one_line settings now kept) (λ n. refl)
     (ap set (settings_again settings now kept may)) headed in
     let start : no_keys settings.me ≡ ring_of ring.me (blank ring.keys) =
     no_keys_is settings.me ring.keys places ∙ ap (λ (me : ℕ). ring_of me (blank ring.keys)) (sym may.keyed.own) in
@@ -274,3 +290,8 @@ written_gets_yes settings now kept es may stored legal few short =
 pub yes_if : {T E : Type 0} (r : Result T E) (P Q : Type 0) → OnOk r P → (P → Q) → OnOk r Q
 yes_if (Ok x) P Q p f = f p
 yes_if (Err e) P Q p f = tt
+
+-- without keys nothing is said of it
+pub yes_tagged : {T E : Type 0} (r : Result T E) (P Q : Type 0) → OnOk r (Tagged ≡ Tagged → P → Q) → OnOk r (P → Q)
+yes_tagged (Ok x) P Q h = h refl
+yes_tagged (Err e) P Q h = tt

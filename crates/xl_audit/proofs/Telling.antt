@@ -3,9 +3,14 @@ use Rattle.std.proofs.Common.{◌≡◌, ℕ, ◌≤◌, Bool, true, false, List
 use Rattle.std.specs.Prelude.{is_some, IsTrue, OnOk}
 use Rattle.std.proofs.lemmas.List.{take-append-le, take_all}
 use Rattle.xl_core.specs.declared.event.CoreEvent.{CoreEvent}
-use Rattle.xl_core.specs.Answers.{Answer}
+use Rattle.xl_core.specs.declared.deed.Deed.{Deed}
+use Rattle.xl_core.specs.declared.deed.Deed.TheVariants as deed
+use Rattle.xl_core.specs.declared.event.CoreEvent.TheVariants as event
+use Rattle.xl_core.specs.declared.event.CoreEvent.TheVariants.{Drain}
+use Rattle.xl_core.specs.Answers.{Answer, Gave}
+use Rattle.xl_core.specs.Queues.{stream_of}
 use Rattle.xl_core.specs.Core.{Core, CoreReply, core_happens, core_asks}
-use Rattle.xl_core.specs.Deeds.{CountsFailure, Happens, answer_of, save_told}
+use Rattle.xl_core.specs.Deeds.{CountsFailure, Happens, answer_of, event_for, save_told}
 use Rattle.xl_core.specs.declared.core_answer.CoreAnswer.{CoreAnswer}
 use Rattle.xl_core.specs.Keeping.{Saves}
 use Rattle.xl_core.specs.Node.{Save, is_kept}
@@ -16,10 +21,14 @@ use Rattle.xl_store.specs.declared.entry.Saved.{Saved}
 use Rattle.xl_store.specs.declared.entry.Saved.TheVariants as saved
 use Rattle.xl_store.specs.Entries.{save_of}
 use Rattle.xl_audit.specs.declared.saving.EntryKeeper.{EntryKeeper}
-use Rattle.xl_audit.specs.Replies.{reply_text}
+use Rattle.xl_audit.specs.declared.tagging.Tagging.{Tagging}
+use Rattle.xl_audit.specs.declared.tagging.Tagging.TheVariants.{Tagged, Untagged}
+use Rattle.xl_audit.specs.Pieces.{frames_as}
+use Rattle.xl_audit.specs.Replies.{bytes_text, reply_text}
 use Rattle.xl_audit.specs.Rights.{tells_of}
 use Rattle.xl_audit.specs.Saves.{IsFresh, answers_ok, faults_after, count_of}
-use Rattle.xl_audit.specs.Stepping.{Retells, RetellsAs, Replies}
+use Rattle.xl_audit.specs.Stepping.{IsOfFrame, Retells, RetellsAs, Replies}
+use Rattle.xl_audit.specs.Untagged.{frame_text, text_as, untagged_text}
 
 -- an entry that tells of no save is told as one that was kept
 tells_none : (outcome : Option Saved) → IsTrue (tells_of false outcome) → Kept ≡ save_of outcome
@@ -37,9 +46,9 @@ quiet before after event told asks answers outcome = record {
 }
 
 -- and this is the text of the answer
-pub quiet_as : (before after : Core) (event : CoreEvent) (told : Answer) (text : List ℕ) → core_asks before event ≡ None
-    → Answers (core_happens before event Kept) after told → text ≡ reply_text told → Replies before event after text
-quiet_as before after event told text asks answers is outcome =
+pub quiet_as : (tagging : Tagging) (before after : Core) (event : CoreEvent) (told : Answer) (text : List ℕ) → core_asks before event ≡ None
+    → Answers (core_happens before event Kept) after told → text ≡ text_as tagging event told → Replies tagging before event after text
+quiet_as tagging before after event told text asks answers is outcome =
     record { told = told; is = is; retells = quiet before after event told asks answers outcome }
 
 -- what a keeper gives that answers as an entry tells
@@ -87,25 +96,25 @@ happened_so before after event told old new fresh h = record {
 -- THE TEXT OF A REPLY
 
 -- what is added to an empty text
-pub quiet_ok : {T E : Type 0} (r : Result T E) (before after : Core) (event : CoreEvent) (told : Answer)
+pub quiet_ok : {T E : Type 0} (r : Result T E) (tagging : Tagging) (before after : Core) (event : CoreEvent) (told : Answer)
     (old new : List ℕ) → core_asks before event ≡ None → Answers (core_happens before event Kept) after told → old ≡ []
-    → OnOk r (new ≡ old ++ reply_text told) → OnOk r (Replies before event after new)
-quiet_ok (Ok done) before after event told old new asks answers empty is =
-    quiet_as before after event told new asks answers (is ∙ ap (λ (xs : List ℕ). xs ++ reply_text told) empty)
-quiet_ok (Err why) before after event told old new asks answers empty is = tt
+    → OnOk r (new ≡ old ++ text_as tagging event told) → OnOk r (Replies tagging before event after new)
+quiet_ok (Ok done) tagging before after event told old new asks answers empty is =
+    quiet_as tagging before after event told new asks answers (is ∙ ap (λ (xs : List ℕ). xs ++ text_as tagging event told) empty)
+quiet_ok (Err why) tagging before after event told old new asks answers empty is = tt
 
 -- what is added to an empty text of what happens at a core
-pub happened_ok : {T E : Type 0} (r : Result T E) (before after : Core) (event : CoreEvent) (told : CoreAnswer)
+pub happened_ok : {T E : Type 0} (r : Result T E) (tagging : Tagging) (before after : Core) (event : CoreEvent) (told : CoreAnswer)
     (ok nk : EntryKeeper) (old new : List ℕ) → IsFresh ok
     → Happens (λ _. None) (λ _. None) (λ k. k.faults) Gives before event after told ok nk
-    → old ≡ [] → OnOk r (new ≡ old ++ reply_text (answer_of told))
-    → OnOk r (RetellsAs before event ok.answer after new nk.asked)
-happened_ok (Ok done) before after event told ok nk old new fresh h empty is = record {
+    → old ≡ [] → OnOk r (new ≡ old ++ text_as tagging event (answer_of told))
+    → OnOk r (RetellsAs tagging before event ok.answer after new nk.asked)
+happened_ok (Ok done) tagging before after event told ok nk old new fresh h empty is = record {
   told = answer_of told;
-  is = is ∙ ap (λ (xs : List ℕ). xs ++ reply_text (answer_of told)) empty;
+  is = is ∙ ap (λ (xs : List ℕ). xs ++ text_as tagging event (answer_of told)) empty;
   retells = happened_so before after event told ok nk fresh h;
 }
-happened_ok (Err why) before after event told ok nk old new fresh h empty is = tt
+happened_ok (Err why) tagging before after event told ok nk old new fresh h empty is = tt
 
 -- the front of a room that begins with these
 pub front_of : {X : Type 0} (count : ℕ) (room given rest : List X) → count ≡ length given → room ≡ given ++ rest
@@ -118,3 +127,32 @@ pub front_within : {X : Type 0} (count : ℕ) (room given rest : List X) → cou
     → count ≤ length room
 front_within count room given rest many is =
     let long : length room ≡ length given + length rest = ap length is ∙ length-append given rest in omega arith
+
+-- what a drain gives is told as digits
+pub drained_as : (tagging : Tagging) (to room : ℕ) (frames : List (List ℕ))
+    → bytes_text (stream_of (frames_as tagging frames)) ≡ text_as tagging (Drain to room) (Gave to frames)
+drained_as Tagged to room frames = refl
+drained_as Untagged to room frames = refl
+
+-- so is what a frame is answered
+pub frame_told : (core : Core) (d : Deed) → IsOfFrame d → (answer : Answer)
+    → frame_text answer ≡ text_as Untagged (event_for core d) answer
+frame_told core (deed.Frame now bytes) of answer = refl
+frame_told core (deed.Sealed now bytes) of answer = refl
+frame_told core other of answer = absurd of
+
+-- and what any other event is answered has no tag
+plain_text : (e : CoreEvent) → ((now : _) (bytes : _) → e ≡ event.Frame now bytes → ⊥)
+    → ((member : _) (room : _) → e ≡ event.Drain member room → ⊥) → (answer : Answer)
+    → reply_text answer ≡ untagged_text e answer
+plain_text (event.Frame now bytes) frame drain answer = absurd (frame now bytes refl)
+plain_text (event.Drain member room) frame drain answer = absurd (drain member room refl)
+plain_text other frame drain answer = refl
+
+pub plain_ok : {T E : Type 0} (r : Result T E) (before after : Core) (e : CoreEvent) (outcome : Option Saved) (text : List ℕ)
+    (asked : Bool) → ((now : _) (bytes : _) → e ≡ event.Frame now bytes → ⊥)
+    → ((member : _) (room : _) → e ≡ event.Drain member room → ⊥)
+    → OnOk r (RetellsAs Tagged before e outcome after text asked) → OnOk r (RetellsAs Untagged before e outcome after text asked)
+plain_ok (Ok done) before after e outcome text asked frame drain h =
+    record { told = h.told; is = h.is ∙ plain_text e frame drain h.told; retells = h.retells }
+plain_ok (Err why) before after e outcome text asked frame drain h = tt

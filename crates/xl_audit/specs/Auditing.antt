@@ -3,7 +3,6 @@ use Rattle.std.specs.Prelude.{ℕ, ◌+◌, List, [], ◌∷◌, ◌++◌, decim
 use Rattle.std.specs.Str.{bytes_eq}
 use Rattle.xl_tags.specs.Rings.{Ring, no_keys}
 use Rattle.xl_core.specs.Core.{Core}
-use Rattle.xl_store.specs.Entries.{reply_of}
 use Rattle.xl_lines.specs.declared.limits.Overrun.{Overrun}
 use Rattle.xl_lines.specs.declared.limits.Overrun.TheVariants as overrun
 use Rattle.xl_sched.specs.declared.refusal.SchedRefusal.{SchedRefusal}
@@ -16,10 +15,12 @@ use Rattle.xl_audit.specs.declared.judging.BadLine.TheVariants.{Refused, Keyless
 use Rattle.xl_audit.specs.declared.judging.Stage.{Stage}
 use Rattle.xl_audit.specs.declared.judging.Stage.TheVariants.{Heading, Setting, Keying, Judging}
 use Rattle.xl_audit.specs.declared.opening.Opening.{Opening}
+use Rattle.xl_audit.specs.declared.tagging.Tagging.{Tagging}
+use Rattle.xl_audit.specs.declared.tagging.Tagging.TheVariants.{Tagged}
 use Rattle.xl_audit.specs.declared.written.Written.{Written}
 use Rattle.xl_audit.specs.Opening.{core_of, key_in, opening_in, unmet}
 use Rattle.xl_audit.specs.Reading.{entry_in}
-use Rattle.xl_audit.specs.Rights.{is_right}
+use Rattle.xl_audit.specs.Rights.{is_right_as, next_as}
 use Rattle.xl_audit.specs.Values.{space}
 use Rattle.xl_audit.specs.Words.{first, tokens}
 
@@ -48,10 +49,13 @@ pub data Step : Type 0 where
   refuses : (why : BadLine) → Step
 
 -- an entry is judged
+abbrev pub judgement_as : Tagging → Core → ℕ → Result Written SchedRefusal → Step
+judgement_as tagging core entries (Err why) = refuses (Refused why)
+judgement_as tagging core entries (Ok w) =
+    if is_right_as tagging core w then goes_on (Judging (next_as tagging core w) (entries + 1)) else wrong (entries + 1)
+
 abbrev pub judgement : Core → ℕ → Result Written SchedRefusal → Step
-judgement core entries (Err why) = refuses (Refused why)
-judgement core entries (Ok w) =
-    if is_right core w then goes_on (Judging (reply_of core w.entry).core (entries + 1)) else wrong (entries + 1)
+judgement core entries r = judgement_as Tagged core entries r
 
 abbrev pub entry_step : Core → ℕ → List (List ℕ) → Step
 entry_step core entries words = judgement core entries (entry_in core.node.keys words)

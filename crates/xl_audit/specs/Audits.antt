@@ -12,54 +12,70 @@ use Rattle.xl_audit.specs.Limits.{most_bytes, most_lines}
 use Rattle.xl_audit.specs.declared.judging.BadLine.{BadLine}
 use Rattle.xl_audit.specs.declared.judging.Stage.{Stage}
 use Rattle.xl_audit.specs.declared.judging.Stage.TheVariants.{Heading}
-use Rattle.xl_audit.specs.Auditing.{goes_on, wrong, refuses, bad_line, beyond, ended, newline, no_line, yes_line}
-use Rattle.xl_audit.specs.Cuts.{Came, cut, whole, came_at}
+use Rattle.xl_audit.specs.declared.tagging.Tagging.{Tagging}
+use Rattle.xl_audit.specs.declared.tagging.Tagging.TheVariants.{Tagged, Untagged}
+use Rattle.xl_audit.specs.Auditing.{goes_on, wrong, refuses, bad_line, beyond, ended, newline, no_line}
+use Rattle.xl_audit.specs.Cuts.{Came, cut, whole, came_behind, tagging_behind}
+
+-- a yes of a journal without keys says so at its end: all was judged but the tags
+abbrev pub ending : Tagging → List ℕ
+ending Tagged = newline
+ending Untagged = codes " untagged" ++ newline
+
+-- all entries are right, and so many
+abbrev pub all_line : Tagging → ℕ → List ℕ
+all_line tagging n = codes "yes " ++ decimal n ++ ending tagging
 
 -- how many entries stand before a last line that is cut short
-abbrev pub cut_line : ℕ → List ℕ
-cut_line n = codes "yes " ++ decimal n ++ codes " cut" ++ newline
+abbrev pub cut_line : Tagging → ℕ → List ℕ
+cut_line tagging n = codes "yes " ++ decimal n ++ codes " cut" ++ ending tagging
 
--- a journal so far: how many lines were read, what they lead to, and behind how many entries the last is cut short
+-- a journal so far: how many lines were read, what they lead to, whether it tells keys, and behind how many entries the
+-- last is cut short
 pub record Auditing : Type 0 where
   pub lines : ℕ
   pub stage : Stage
+  pub tagging : Tagging
   pub cut : Option ℕ
 
 -- before the first line
 abbrev pub at_first : Auditing
-at_first = record { lines = 0; stage = Heading; cut = None }
+at_first = record { lines = 0; stage = Heading; tagging = Tagged; cut = None }
 
 -- what the next line leads to, unless it is too long or one too many
 abbrev pub bounded_step : Auditing → List ℕ → Bool → Came
 bounded_step a line newline_came =
     if nat_lt most_bytes (length line) then whole (refuses (beyond overrun.LongLine))
     else if a.lines == most_lines then whole (refuses (beyond overrun.ManyLines))
-    else came_at a.stage line newline_came
+    else came_behind a.lines a.tagging a.stage line newline_came
+
+abbrev pub tagging_then : Auditing → List ℕ → Tagging
+tagging_then a line = tagging_behind a.lines a.tagging a.stage line
 
 -- nothing is written of a line that is in order, and the first that isn't ends the text; of one that is cut short it is
 -- kept how many entries stand before it
-abbrev pub line_step_of : ℕ → Option ℕ → Came → LineStep Auditing
-line_step_of lines before (cut entries) =
-    line_goes_on [] (record { lines = lines + 1; stage = Heading; cut = Some entries })
-line_step_of lines before (whole (goes_on stage)) =
-    line_goes_on [] (record { lines = lines + 1; stage = stage; cut = before })
-line_step_of lines before (whole (wrong place)) = line_finds (no_line place)
-line_step_of lines before (whole (refuses why)) = line_refuses (bad_line (lines + 1) why)
+abbrev pub line_step_of : ℕ → Tagging → Option ℕ → Came → LineStep Auditing
+line_step_of lines tagging before (cut entries) =
+    line_goes_on [] (record { lines = lines + 1; stage = Heading; tagging = tagging; cut = Some entries })
+line_step_of lines tagging before (whole (goes_on stage)) =
+    line_goes_on [] (record { lines = lines + 1; stage = stage; tagging = tagging; cut = before })
+line_step_of lines tagging before (whole (wrong place)) = line_finds (no_line place)
+line_step_of lines tagging before (whole (refuses why)) = line_refuses (bad_line (lines + 1) why)
 
 -- the line where it ends is the one behind the last
-abbrev pub told_at_end : ℕ → Result ℕ BadLine → Told
-told_at_end n (Ok entries) = closes (yes_line entries) verdict.Good
-told_at_end n (Err why) = closes (bad_line n why) verdict.Refused
+abbrev pub told_at_end : ℕ → Tagging → Result ℕ BadLine → Told
+told_at_end n tagging (Ok entries) = closes (all_line tagging entries) verdict.Good
+told_at_end n tagging (Err why) = closes (bad_line n why) verdict.Refused
 
-abbrev pub told_unless_cut : Option ℕ → Told → Told
-told_unless_cut (Some entries) told = closes (cut_line entries) verdict.Good
-told_unless_cut None told = told
+abbrev pub told_unless_cut : Tagging → Option ℕ → Told → Told
+told_unless_cut tagging (Some entries) told = closes (cut_line tagging entries) verdict.Good
+told_unless_cut tagging None told = told
 
 abbrev pub rules : Rules Auditing
 rules = record {
-  step = λ a line newline_came. line_step_of a.lines a.cut (bounded_step a line newline_came);
+  step = λ a line newline_came. line_step_of a.lines (tagging_then a line) a.cut (bounded_step a line newline_came);
   overrun = λ a overrun. bad_line (a.lines + 1) (beyond overrun);
-  closing = λ a. told_unless_cut a.cut (told_at_end (a.lines + 1) (ended a.stage));
+  closing = λ a. told_unless_cut a.tagging a.cut (told_at_end (a.lines + 1) a.tagging (ended a.stage));
 }
 
 abbrev pub limits : Limits

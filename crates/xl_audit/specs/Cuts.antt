@@ -1,25 +1,32 @@
 -- A last line that lacks its newline. Source: text files of POSIX, whose last line may lack it, as that of a process that
 -- was killed; this project's own formats.
-use Rattle.std.specs.Prelude.{ℕ, ◌+◌, ◌==◌, ◌&&◌, Bool, true, false, List, [], ◌∷◌, is_some, Result, Ok, Err, if◌then◌else◌}
+use Rattle.std.specs.Prelude.{ℕ, ◌+◌, ◌==◌, ◌&&◌, nat_eq, nat_lt, Bool, true, false, List, length, codes, is_some, Result, Ok, Err, Option, Some, None, if◌then◌else◌}
+use Rattle.std.specs.List.{starts_with}
 use Rattle.std.specs.Str.{bytes_eq}
+use Rattle.xl_tags.specs.Rings.{Ring}
 use Rattle.xl_core.specs.Core.{Core, core_asks}
+use Rattle.xl_sched.specs.declared.refusal.SchedRefusal.{SchedRefusal}
 use Rattle.xl_store.specs.Entries.{reply_of}
 use Rattle.xl_audit.specs.declared.compared.Likeness.{Likeness}
 use Rattle.xl_audit.specs.declared.compared.Likeness.TheVariants as like
 use Rattle.xl_audit.specs.declared.judging.BadLine.{BadLine}
 use Rattle.xl_audit.specs.declared.judging.Stage.{Stage}
-use Rattle.xl_audit.specs.declared.judging.Stage.TheVariants.{Judging}
+use Rattle.xl_audit.specs.declared.judging.BadLine.TheVariants.{Refused, Keyless}
+use Rattle.xl_audit.specs.declared.judging.Stage.TheVariants.{Keying, Judging}
+use Rattle.xl_audit.specs.declared.opening.Opening.{Opening}
+use Rattle.xl_audit.specs.declared.tagging.Tagging.{Tagging}
+use Rattle.xl_audit.specs.declared.tagging.Tagging.TheVariants.{Tagged, Untagged}
 use Rattle.xl_audit.specs.declared.written.Written.{Written}
 use Rattle.xl_audit.specs.Auditing.{Step, goes_on, wrong, refuses, ended, step}
-use Rattle.xl_audit.specs.Leading.{Lead, leads, tells, lead}
+use Rattle.xl_audit.specs.Leading.{Lead, leads, tells, lead, judged_lead}
+use Rattle.xl_audit.specs.Opening.{core_of, unmet}
+use Rattle.xl_audit.specs.Peers.{peers_in}
 use Rattle.xl_audit.specs.Rights.{reply_to, tells_of}
+use Rattle.xl_audit.specs.Words.{first, tokens}
 
 -- bytes begin others, which go on behind them
 abbrev pub begins : List ℕ → List ℕ → Bool
-begins [] [] = false
-begins [] (b ∷ others) = true
-begins (a ∷ more) [] = false
-begins (a ∷ more) (b ∷ others) = (a == b) && begins more others
+begins front others = nat_lt (length front) (length others) && starts_with nat_eq others front
 
 -- a reply beside the right one
 abbrev pub likeness : List ℕ → List ℕ → Likeness
@@ -66,3 +73,44 @@ last_step stage line = led_last (ended stage) (lead stage line)
 abbrev pub came_at : Stage → List ℕ → Bool → Came
 came_at stage line true = whole (step stage line)
 came_at stage line false = last_step stage line
+
+-- WITHOUT KEYS
+
+-- of a last line that lacks its newline nothing is judged
+abbrev pub cut_behind : Result ℕ BadLine → Came
+cut_behind (Ok entries) = cut entries
+cut_behind (Err early) = whole (refuses early)
+
+abbrev pub untagged_came : Stage → List ℕ → Bool → Came
+untagged_came stage line true = whole (judged_lead Untagged (lead stage line))
+untagged_came stage line false = cut_behind (ended stage)
+
+abbrev pub came_as : Tagging → Stage → List ℕ → Bool → Came
+came_as Tagged stage line newline_came = came_at stage line newline_came
+came_as Untagged stage line newline_came = untagged_came stage line newline_came
+
+-- whether a line names the members that have keys: it may be the third
+abbrev pub names_peers : ℕ → Stage → List ℕ → Bool
+names_peers lines (Keying opening ring) line = bytes_eq (first (tokens line)) (codes "peers") && (lines == 2)
+names_peers lines other line = false
+
+-- the core opens at once, if each listed member is named
+abbrev pub opened_step : Opening → Ring → Option ℕ → Step
+opened_step opening ring (Some member) = refuses (Keyless member)
+opened_step opening ring None = goes_on (Judging (core_of opening ring) 0)
+
+abbrev pub peered : Opening → Result Ring SchedRefusal → Step
+peered opening (Ok ring) = opened_step opening ring (unmet ring opening.list.members)
+peered opening (Err why) = refuses (Refused why)
+
+abbrev pub peers_step : Stage → List ℕ → Step
+peers_step (Keying opening ring) line = peered opening (peers_in ring (tokens line))
+peers_step other line = goes_on other
+
+-- what the line behind so many leads to, and the kind of the journal then
+abbrev pub came_behind : ℕ → Tagging → Stage → List ℕ → Bool → Came
+came_behind lines tagging stage line newline_came =
+    if names_peers lines stage line then whole (peers_step stage line) else came_as tagging stage line newline_came
+
+abbrev pub tagging_behind : ℕ → Tagging → Stage → List ℕ → Tagging
+tagging_behind lines tagging stage line = if names_peers lines stage line then Untagged else tagging

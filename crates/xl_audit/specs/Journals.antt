@@ -1,5 +1,5 @@
 -- The text of a journal. Source: this project's own formats.
-use Rattle.std.specs.Prelude.{ℕ, Bool, List, [], ◌∷◌, ◌++◌, decimal, codes, Option, Some, None, if◌then◌else◌}
+use Rattle.std.specs.Prelude.{ℕ, Bool, List, [], ◌∷◌, ◌++◌, decimal, codes, is_some, Option, Some, None, if◌then◌else◌}
 use Rattle.std.specs.List.{flat_map, range_with_len}
 use Rattle.hex.specs.Hex.{encode_lower}
 use Rattle.xl_tags.specs.Rings.{Ring, key_of}
@@ -11,8 +11,10 @@ use Rattle.xl_core.specs.declared.settings.Settings.{Settings}
 use Rattle.xl_store.specs.declared.entry.Entry.{Entry}
 use Rattle.xl_store.specs.declared.entry.Saved.{Saved}
 use Rattle.xl_store.specs.declared.entry.Saved.TheVariants as saved
+use Rattle.xl_audit.specs.declared.tagging.Tagging.{Tagging}
+use Rattle.xl_audit.specs.declared.tagging.Tagging.TheVariants.{Tagged, Untagged}
 use Rattle.xl_audit.specs.declared.written.Written.{Written}
-use Rattle.xl_audit.specs.Laws.{written_over}
+use Rattle.xl_audit.specs.Laws.{written_as}
 use Rattle.xl_audit.specs.Replies.{bytes_text}
 use Rattle.xl_audit.specs.Values.{space}
 
@@ -80,20 +82,54 @@ key_text m (Some key) = codes "key " ++ decimal m ++ space ++ encode_lower key +
 unfoldable pub key_lines : Ring → List ℕ
 key_lines ring = flat_map (λ m. key_text m (key_of ring m)) (range_with_len 1 64)
 
+-- the members that a ring has keys for, by rising numbers
+abbrev pub peer_at : Ring → ℕ → List ℕ
+peer_at ring m = if is_some (key_of ring m) then m ∷ [] else []
+
+abbrev pub peers_of : Ring → List ℕ
+peers_of ring = flat_map (peer_at ring) (range_with_len 1 64)
+
+-- numbers, joined by commas, or `-` for none
+abbrev pub peers_text : List ℕ → List ℕ
+peers_text [] = codes "-"
+peers_text (m ∷ ms) = members_text (m ∷ ms)
+
+-- the line that stands in place of the keys
+unfoldable pub peers_line : Ring → List ℕ
+peers_line ring = codes "peers " ++ peers_text (peers_of ring) ++ newline
+
+-- the lines behind the settings: the keys, or whose they are
+abbrev pub keys_text_as : Tagging → Ring → List ℕ
+keys_text_as Tagged ring = key_lines ring
+keys_text_as Untagged ring = peers_line ring
+
 -- a core before its first entry
 abbrev pub start_of : Settings → ℕ → ℕ → Core
 start_of settings now kept = with_queues (opened_node settings now kept)
 
 -- what stands before the entries
+abbrev pub head_text_as : Tagging → Settings → ℕ → ℕ → List ℕ
+head_text_as tagging settings now kept =
+    codes "xl-journal 1" ++ newline ++ settings_line settings now kept ++ keys_text_as tagging settings.keys
+
 abbrev pub head_text : Settings → ℕ → ℕ → List ℕ
-head_text settings now kept =
-    codes "xl-journal 1" ++ newline ++ settings_line settings now kept ++ key_lines settings.keys
+head_text settings now kept = head_text_as Tagged settings now kept
 
 -- a line for each entry of a history
+abbrev pub entries_text_as : Tagging → Core → List Entry → List ℕ
+entries_text_as tagging core es = flat_map entry_line (written_as tagging core es)
+
 abbrev pub entries_text : Core → List Entry → List ℕ
-entries_text core es = flat_map entry_line (written_over core es)
+entries_text core es = entries_text_as Tagged core es
 
 -- the text of a history: its settings, its keys, and a line for each entry with the reply of the core's step
+abbrev pub journal_text_as : Tagging → Settings → ℕ → ℕ → List Entry → List ℕ
+journal_text_as tagging settings now kept es =
+    head_text_as tagging settings now kept ++ entries_text_as tagging (start_of settings now kept) es
+
 abbrev pub journal_text : Settings → ℕ → ℕ → List Entry → List ℕ
-journal_text settings now kept es =
-    head_text settings now kept ++ entries_text (start_of settings now kept) es
+journal_text settings now kept es = journal_text_as Tagged settings now kept es
+
+-- and without keys: whose they are stands in their place, and no tag that the core computed is told
+abbrev pub untagged_journal_text : Settings → ℕ → ℕ → List Entry → List ℕ
+untagged_journal_text settings now kept es = journal_text_as Untagged settings now kept es

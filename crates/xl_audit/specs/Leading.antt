@@ -18,8 +18,10 @@ use Rattle.xl_audit.specs.declared.judging.Lead.TheVariants as answer
 use Rattle.xl_audit.specs.declared.judging.Stage.{Stage}
 use Rattle.xl_audit.specs.declared.judging.Stage.TheVariants.{Heading, Setting, Keying, Judging}
 use Rattle.xl_audit.specs.declared.opening.Opening.{Opening}
+use Rattle.xl_audit.specs.declared.tagging.Tagging.{Tagging}
+use Rattle.xl_audit.specs.declared.tagging.Tagging.TheVariants.{Tagged}
 use Rattle.xl_audit.specs.declared.written.Written.{Written}
-use Rattle.xl_audit.specs.Auditing.{Step, refuses, goes_on, heading_step, judgement, keyed, set, step}
+use Rattle.xl_audit.specs.Auditing.{Step, refuses, goes_on, heading_step, judgement_as, keyed, set, step}
 use Rattle.xl_audit.specs.Opening.{core_of, key_in, opening_in, unmet}
 use Rattle.xl_audit.specs.Reading.{entry_in}
 use Rattle.xl_audit.specs.Rights.{IsAsked}
@@ -60,17 +62,17 @@ lead (Keying opening ring) line = keying_lead opening ring (tokens line)
 lead (Judging core entries) line = judging_lead core entries (tokens line)
 
 -- the entry is judged
-abbrev pub judged_at : Stage → Written → Step
-judged_at (Judging core entries) w = judgement core entries (Ok w)
-judged_at other w = goes_on other
+abbrev pub judged_at : Tagging → Stage → Written → Step
+judged_at tagging (Judging core entries) w = judgement_as tagging core entries (Ok w)
+judged_at tagging other w = goes_on other
 
-abbrev pub judged_lead : Lead → Step
-judged_lead (leads step) = step
-judged_lead (tells stage w) = judged_at stage w
+abbrev pub judged_lead : Tagging → Lead → Step
+judged_lead tagging (leads step) = step
+judged_lead tagging (tells stage w) = judged_at tagging stage w
 
 -- So a step is what the line leads to, with its entry judged.
 abbrev pub StepIsLed : Type 0
-StepIsLed = (stage : Stage) (line : List ℕ) → step stage line ≡ judged_lead (lead stage line)
+StepIsLed = (stage : Stage) (line : List ℕ) → step stage line ≡ judged_lead Tagged (lead stage line)
 
 -- a lead as a call gives it, with the stage that it leaves
 abbrev pub lead_given : Answer → Stage → Lead

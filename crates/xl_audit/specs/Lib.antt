@@ -1,6 +1,7 @@
 pub mod Limits
 pub mod Values
 pub mod Replies
+pub mod Untagged
 pub mod Saves
 pub mod Rights
 pub mod Pieces
@@ -11,6 +12,7 @@ pub mod Tokens
 pub mod Digits
 pub mod Reading
 pub mod Opening
+pub mod Peers
 pub mod Auditing
 pub mod Journals
 pub mod Leading

@@ -1,16 +1,25 @@
 -- Drains and handings out, a piece at a time. Source: what the code of this crate relies on.
-use Rattle.std.specs.Prelude.{◌≡◌, ℕ, List, ◌++◌, take}
+use Rattle.std.specs.Prelude.{◌≡◌, ℕ, List, ◌++◌, map, take}
 use Rattle.xl_core.specs.Core.{Core, given_for, after_drain}
 use Rattle.xl_core.specs.Queues.{frames_in, stream_of, without}
+use Rattle.xl_core.specs.Sending.{without_tag}
 use Rattle.xl_core.specs.declared.report.Report.{Report}
+use Rattle.xl_audit.specs.declared.tagging.Tagging.{Tagging}
+use Rattle.xl_audit.specs.declared.tagging.Tagging.TheVariants.{Tagged, Untagged}
+
+-- frames as they are told, with their tags or without
+abbrev pub frames_as : Tagging → List (List ℕ) → List (List ℕ)
+frames_as Tagged frames = frames
+frames_as Untagged frames = map without_tag frames
 
 -- the bytes that a drain into a room gives
-abbrev pub bytes_given : Core → ℕ → ℕ → List ℕ
-bytes_given core to room = stream_of (frames_in (given_for core to room))
+abbrev pub bytes_given : Tagging → Core → ℕ → ℕ → List ℕ
+bytes_given tagging core to room = stream_of (frames_as tagging (frames_in (given_for core to room)))
 
 -- what is left of a drain is still to come, and these bytes were given so far
-pub record HasDrained (start : Core) (to room : ℕ) (now : Core) (left : ℕ) (given : List ℕ) : Type 0 where
-  pub bytes : bytes_given start to room ≡ given ++ bytes_given now to left
+pub record HasDrained (tagging : Tagging) (start : Core) (to room : ℕ) (now : Core) (left : ℕ)
+    (given : List ℕ) : Type 0 where
+  pub bytes : bytes_given tagging start to room ≡ given ++ bytes_given tagging now to left
   pub core : after_drain start to room ≡ after_drain now to left
   pub node : now.node ≡ start.node
 

@@ -3,4 +3,4 @@ use Rattle.xl_audit.specs.declared.judge.Judge.{Judge}
 use Rattle.xl_audit.specs.Audits.{Auditing}
 
 abbrev pub state_of : Judge → Auditing
-state_of judge = record { lines = judge.lines; stage = judge.stage; cut = judge.cut }
+state_of judge = record { lines = judge.lines; stage = judge.stage; tagging = judge.tagging; cut = judge.cut }

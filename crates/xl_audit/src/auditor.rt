@@ -8,15 +8,17 @@ ghost use Rattle.std.specs.String.{string_bytes};
 ghost use Rattle.xl_core.specs.Core.{core_asks};
 ghost use Rattle.xl_store.specs.Entries.{IsAllowed, IsOutcome, reply_of};
 ghost use Rattle.xl_audit.specs.Cuts.{likeness_at};
-ghost use Rattle.xl_audit.specs.Laws.{written_with};
+ghost use Rattle.xl_audit.specs.Laws.{answer_text, written_with};
 ghost use Rattle.xl_audit.specs.Leading.{TellsDeed};
 ghost use Rattle.xl_audit.specs.Saves.{IsCounted};
-ghost use Rattle.xl_audit.specs.Rights.{IsAsked, IsRight, is_right, reply_to as reply_to_of, tells_of};
+ghost use Rattle.xl_audit.specs.Rights.{IsAsked, IsRight, is_right, is_right_as, next_as, tells_of};
 
 use crate::Written;
 use crate::compared::{Compared, Likeness};
 use crate::saving::EntryKeeper;
 use crate::stepping::{AuditedCore, ROOM, reply_to};
+use crate::tagging::Tagging;
+use crate::untagged::{is_marked, reply_as, reply_retagged, says_bad_tag};
 use std::alloc::Global;
 use std::marker::Model;
 use xl_base::{Millis, OutOfMemory, Seq};
@@ -77,19 +79,19 @@ impl Auditor {
     }
 
     /// The text of the reply to an entry of a legal history, and the core goes on.
-    pub(crate) fn reply(&mut self, entry: &Entry) -> Result<String, OutOfMemory>
+    pub(crate) fn reply(&mut self, tagging: Tagging, entry: &Entry) -> Result<String, OutOfMemory>
         requires allowed { IsAllowed self.old entry.now.event }
         requires outcome { IsOutcome (core_asks self.old entry.now.event) entry.now.outcome }
-        ensures text { IfOk result (λ text. string_bytes text ≡ reply_to_of self.old entry.now) }
+        ensures text { IfOk result (λ text. string_bytes text ≡ answer_text tagging self.old entry.now) }
         ensures core { OnOk result (self.new ≡ (reply_of self.old entry.now).core) }
     {
         let mut keeper = EntryKeeper::of(entry.outcome);
         let mut text = String::new(self.alloc);
         let mut answer = CoreAnswer::Done;
-        reply_to(
+        reply_as(
             self.alloc,
             &mut *self.core,
-            &entry.event,
+            (tagging, &entry.event),
             &mut keeper,
             &mut self.piece,
             &mut text,
@@ -130,6 +132,39 @@ impl Auditor {
             Likeness::Same => Ok(true),
             Likeness::Short | Likeness::Other => Ok(false),
         }
+    }
+
+    /// Whether an entry of a journal without keys is right, with this reply.
+    pub(crate) fn judge_untagged(
+        &mut self,
+        entry: &Entry,
+        reply: &[u8],
+    ) -> Result<bool, OutOfMemory>
+        requires allowed { IsAllowed self.old entry.now.event }
+        requires counted { IsCounted entry.now.outcome }
+        ensures value { IfOk result (λ right. right
+            ≡ is_right_as Tagging.Untagged self.old (written_with entry.now reply.now)) }
+        ensures core { IfOk result (λ right. IsTrue right
+            → self.new ≡ next_as Tagging.Untagged self.old (written_with entry.now reply.now)) }
+        ensures keys { OnOk result (self.new.node.keys ≡ self.old.node.keys) }
+    {
+        let marked = is_marked(self.alloc, &entry.event, reply)?;
+        let mut keeper = EntryKeeper::of(entry.outcome);
+        let mut text = Compared::with(self.alloc, reply);
+        let mut answer = CoreAnswer::Done;
+        reply_retagged(
+            self.alloc,
+            &mut *self.core,
+            (&entry.event, marked),
+            &mut keeper,
+            &mut self.piece,
+            &mut text,
+            &mut answer,
+        )?;
+        if !tells_of(keeper.was_asked(), &entry.outcome) {
+            return Ok(false);
+        }
+        Ok((marked && says_bad_tag(&answer)) || text.is(reply))
     }
 
     /// What an entry with this reply is beside the right one. If it is the same, what the core answers is put into

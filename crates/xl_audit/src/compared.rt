@@ -111,10 +111,7 @@ fn is_joined(text: &[u8], front: &[u8], behind: &[u8]) -> bool
 fn begins(front: &[u8], text: &[u8]) -> bool
     ensures { result ≡ begins front.now text.now }
 {
-    match text.strip_prefix(front) {
-        Some(rest) => !rest.is_empty(),
-        None => false,
-    }
+    front.len() < text.len() && text.starts_with(front)
 }
 
 /// Whether these two parts go on behind a text.

@@ -1,5 +1,5 @@
 // The text of a journal.
-ghost use Rattle.std.specs.Prelude.{◌≡◌, ◌++◌, IfSome, OnOk};
+ghost use Rattle.std.specs.Prelude.{◌≡◌, ◌++◌, IfOk, IfSome, OnOk};
 ghost use Rattle.std.specs.List.{flat_map};
 ghost use Rattle.std.specs.String.{string_bytes};
 ghost use Rattle.hex.specs.Hex.{IsBytes};
@@ -7,16 +7,16 @@ ghost use Rattle.xl_lists.specs.Lists.{IsValid};
 ghost use Rattle.xl_tags.specs.Rings.{key_of};
 ghost use Rattle.xl_core.specs.Core.{core_asks};
 ghost use Rattle.xl_store.specs.Entries.{IsAllowed, IsOutcome, reply_of};
-ghost use Rattle.xl_audit.specs.Laws.{written_with};
-ghost use Rattle.xl_audit.specs.Rights.{reply_to};
+ghost use Rattle.xl_audit.specs.Laws.{answer_text, written_with};
 ghost use Rattle.xl_base.specs.Ids.{IsId};
 ghost use Rattle.xl_audit.specs.Stored.{AreStored, HasIds, IsMember, IsStored, IsStoredEvent, IsStoredOutcome};
-ghost use Rattle.xl_audit.specs.Journals.{entry_line, event_text, head_text, key_lines, key_text, kind_text, list_text, members_text, opening_text, other_text, outcome_text, settings_line, validating_text};
+ghost use Rattle.xl_audit.specs.Journals.{entry_line, event_text, head_text_as, key_lines, key_text, keys_text_as, kind_text, list_text, members_text, opening_text, other_text, outcome_text, peer_at, peers_line, peers_of, peers_text, settings_line, validating_text};
 
 use crate::Auditor;
 use crate::opening::numbered;
 use crate::replies::push_bytes;
 use crate::reply_text::ReplyText;
+use crate::tagging::Tagging;
 use crate::values::push_id;
 use std::alloc::Global;
 use std::fmt::Write;
@@ -242,22 +242,84 @@ fn push_keys(alloc: Global, text: &mut String, keys: &Keys) -> Result<(), OutOfM
     Ok(())
 }
 
+/// The number of a member that has a key.
+fn push_peer(peers: &mut Vec<NodeNo>, keys: &Keys, member: NodeNo) -> Result<(), OutOfMemory>
+    ensures { OnOk result (peers.new.items ≡ peers.old.items ++ peer_at keys.now member) }
+{
+    if keys.has(member) {
+        peers.push(member)?;
+    }
+    Ok(())
+}
+
+/// The members that have keys, by rising numbers.
+fn peers_of(alloc: Global, keys: &Keys) -> Result<Vec<NodeNo>, OutOfMemory>
+    ensures { IfOk result (λ peers. peers.items ≡ peers_of keys.now) }
+{
+    let mut peers = Vec::new(alloc);
+    for number in 1..GREATEST_NODE_NO + 1 {
+        push_peer(&mut peers, keys, numbered(number))?;
+    }
+    Ok(peers)
+}
+
+/// Numbers, joined by commas, or `-` for none.
+fn push_numbers(text: &mut String, members: &[NodeNo]) -> Result<(), OutOfMemory>
+    ensures { OnOk result (string_bytes text.new ≡ string_bytes text.old ++ peers_text members.now) }
+{
+    if members.is_empty() {
+        return text.word("-");
+    }
+    push_members(text, members)
+}
+
+/// The line that names the members that have keys.
+#[tactic(auto, unfolding(crate::specs::Journals::peers_line))]
+fn push_peers(alloc: Global, text: &mut String, keys: &Keys) -> Result<(), OutOfMemory>
+    ensures { OnOk result (string_bytes text.new ≡ string_bytes text.old ++ peers_line keys.now) }
+{
+    let peers = peers_of(alloc, keys)?;
+    text.word("peers ")?;
+    push_numbers(text, peers.as_slice())?;
+    text.push('\n')?;
+    Ok(())
+}
+
+/// The lines of the keys, or the one that says whose they are.
+fn push_ring(
+    alloc: Global,
+    text: &mut String,
+    tagging: Tagging,
+    keys: &Keys,
+) -> Result<(), OutOfMemory>
+    ensures text { OnOk result
+        (string_bytes text.new ≡ string_bytes text.old ++ keys_text_as tagging keys.now) }
+    ensures stored { OnOk result (tagging ≡ Tagging.Tagged → HasIds keys.now) }
+{
+    match tagging {
+        Tagging::Tagged => push_keys(alloc, text, keys),
+        Tagging::Untagged => push_peers(alloc, text, keys),
+    }
+}
+
 /// What stands before the entries.
 pub fn push_head(
     alloc: Global,
     text: &mut String,
+    tagging: Tagging,
     settings: &Settings,
     now: Millis,
     kept: Seq,
 ) -> Result<(), OutOfMemory>
-    ensures text { OnOk result (string_bytes text.new ≡ string_bytes text.old ++ head_text settings.now now kept) }
-    ensures stored { OnOk result (AreStored settings.now) }
+    ensures text { OnOk result
+        (string_bytes text.new ≡ string_bytes text.old ++ head_text_as tagging settings.now now kept) }
+    ensures stored { OnOk result (tagging ≡ Tagging.Tagged → AreStored settings.now) }
 {
     // A ring has a place for each member, and no key for its own.
     let _me = settings.keys.me();
     text.word("xl-journal 1\n")?;
     push_settings(text, settings, now, kept)?;
-    push_keys(alloc, text, &settings.keys)?;
+    push_ring(alloc, text, tagging, &settings.keys)?;
     Ok(())
 }
 
@@ -265,13 +327,14 @@ pub fn push_head(
 pub fn push_entry(
     alloc: Global,
     text: &mut String,
+    tagging: Tagging,
     auditor: &mut Auditor,
     entry: &Entry,
 ) -> Result<(), OutOfMemory>
     requires allowed { IsAllowed auditor.old entry.now.event }
     requires outcome { IsOutcome (core_asks auditor.old entry.now.event) entry.now.outcome }
     ensures text { OnOk result (string_bytes text.new
-        ≡ string_bytes text.old ++ entry_line (written_with entry.now (reply_to auditor.old entry.now))) }
+        ≡ string_bytes text.old ++ entry_line (written_with entry.now (answer_text tagging auditor.old entry.now))) }
     ensures core { OnOk result (auditor.new ≡ (reply_of auditor.old entry.now).core) }
     ensures stored { OnOk result (IsStored entry.now) }
 {
@@ -279,7 +342,7 @@ pub fn push_entry(
     text.push(' ')?;
     push_outcome(text, &entry.outcome)?;
     text.push_str(" = ")?;
-    let reply = auditor.reply(entry)?;
+    let reply = auditor.reply(tagging, entry)?;
     text.push_str(reply.as_str())?;
     text.push('\n')?;
     Ok(())

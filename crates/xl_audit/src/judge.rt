@@ -2,21 +2,23 @@
 ghost use Rattle.std.specs.Prelude.{◌≡◌, ℕ, ◌+◌, ◌<◌, ◌≤◌, ◌^◌, None, IfOk, OnErr, OnOk, length};
 ghost use Rattle.xl_audit.specs.Auditing.{step};
 ghost use Rattle.xl_audit.specs.declared.judging.Stage.TheVariants.{Judging};
-ghost use Rattle.xl_audit.specs.Cuts.{came_at, last_step};
+ghost use Rattle.xl_audit.specs.Cuts.{came_as, came_at, came_behind, last_step, peers_step, tagging_behind, untagged_came};
 ghost use Rattle.xl_audit.specs.Judging.{IsReady, IsReady-prop, MayOpen, came_given, entries_of, step_given};
-ghost use Rattle.xl_audit.specs.Leading.{entry_lead, judging_lead, keying_lead, lead as lead_of, lead_given, opening_lead};
+ghost use Rattle.xl_audit.specs.Leading.{entry_lead, judged_lead, judging_lead, keying_lead, lead as lead_of, lead_given, opening_lead};
 ghost use Rattle.xl_audit.specs.Opening.{core_of, unmet};
 ghost use Rattle.xl_audit.specs.Words.{tokens};
 ghost use Rattle.xl_audit.specs.Limits.{most_bytes, most_lines};
 
 use crate::Auditor;
 use crate::judging::{
-    BadLine, Came, Lead, Stage, Step, beyond, ended, heading, judge_last, judge_read, opened,
-    push_bad, push_cut, push_no, push_yes, read_entry, refuse_last, refused, setting,
+    BadLine, Came, Lead, Stage, Step, beyond, cut_last, ended, heading, judge_last, judge_read,
+    judge_untagged, names_peers, opened, peered, push_bad, push_cut, push_no, push_yes, read_entry,
+    refuse_last, refused, setting,
 };
 use crate::key_ring::KeyRing;
 use crate::limits::{MOST_BYTES, MOST_LINES};
 use crate::opening::{Opening, unmet};
+use crate::tagging::Tagging;
 use crate::words::Words;
 use std::alloc::Global;
 use std::mem;
@@ -29,6 +31,7 @@ use xl_sched::{Cause, LineFault};
 pub struct Judge {
     alloc: Global,
     stage: Stage,
+    tagging: Tagging,
     lines: u32,
     /// Behind how many entries its last line is cut short.
     cut: Option<u64>,
@@ -38,7 +41,7 @@ pub struct Judge {
 }
 
 impl Judge {
-    ghost use Rattle.xl_audit.specs.Audits.{at_first, bounded_step};
+    ghost use Rattle.xl_audit.specs.Audits.{at_first, bounded_step, tagging_then};
     ghost use Rattle.xl_audit.specs.States.{state_of};
 
     /// Before the first line.
@@ -48,6 +51,7 @@ impl Judge {
         Judge {
             alloc,
             stage: Stage::Heading,
+            tagging: Tagging::Tagged,
             lines: 0,
             cut: None,
         }
@@ -57,9 +61,10 @@ impl Judge {
     fn take(&mut self, line: &[u8], ended: bool) -> Result<Came, OutOfMemory>
         ensures came { IfOk result (λ came.
             came_given came self.new.stage ≡ bounded_step (state_of self.old) line.now ended) }
-        ensures counted { IfOk result (λ came. came ≡ Came.Whole Step.GoesOn → self.new.lines ≡ self.old.lines + 1) }
+        ensures counted { IfOk result (λ came. came ≡ Came.Whole Step.GoesOn
+            → (self.new.lines ≡ self.old.lines + 1) × (self.new.tagging ≡ tagging_then (state_of self.old) line.now)) }
         ensures counted_cut { IfOk result (λ came. (entries : ℕ) → came ≡ Came.Cut entries
-            → self.new.lines ≡ self.old.lines + 1) }
+            → (self.new.lines ≡ self.old.lines + 1) × (self.new.tagging ≡ tagging_then (state_of self.old) line.now)) }
         ensures cut { self.new.cut ≡ self.old.cut }
     {
         if line.len() > MOST_BYTES {
@@ -70,14 +75,26 @@ impl Judge {
             let why = beyond(self.alloc, Overrun::ManyLines)?;
             return Ok(Came::Whole(Step::Refused(why)));
         }
-        let came = come(self.alloc, &mut self.stage, line, ended)?;
+        let came = come_behind(
+            self.alloc,
+            self.lines,
+            &mut self.tagging,
+            &mut self.stage,
+            line,
+            ended,
+        )?;
         self.lines += 1;
         Ok(came)
     }
 
     /// The last line is cut short.
     fn end_behind(&mut self, entries: u64)
-        ensures { state_of self.new ≡ record { lines = self.old.lines; stage = Stage.Heading; cut = Some entries } }
+        ensures { state_of self.new ≡ record {
+          lines = self.old.lines;
+          stage = Stage.Heading;
+          tagging = self.old.tagging;
+          cut = Some entries;
+        } }
     {
         self.stage = Stage::Heading;
         self.cut = Some(entries);
@@ -122,12 +139,12 @@ impl Machine for Judge {
 
     fn close(&mut self, text: &mut String) -> Result<Verdict, OutOfMemory> {
         if let Some(entries) = self.cut {
-            push_cut(text, entries)?;
+            push_cut(text, self.tagging, entries)?;
             return Ok(Verdict::Good);
         }
         match ended(self.alloc, &self.stage) {
             Ok(entries) => {
-                push_yes(text, entries)?;
+                push_yes(text, self.tagging, entries)?;
                 Ok(Verdict::Good)
             }
             Err(why) => {
@@ -317,4 +334,110 @@ fn come(alloc: Global, stage: &mut Stage, line: &[u8], ended: bool) -> Result<Ca
     } else {
         last(alloc, stage, line)
     }
+}
+
+/// What the next line of a journal without keys leads to.
+fn next_untagged(alloc: Global, stage: &mut Stage, line: &[u8]) -> Result<Step, OutOfMemory>
+    requires ready { IsReady stage.old }
+    requires few { entries_of stage.old + 1 < 2 ^ 64 }
+    requires short { length line.now ≤ most_bytes }
+    ensures step { IfOk result (λ done. step_given done stage.new
+        ≡ judged_lead Tagging.Untagged (lead_of stage.old line.now)) }
+    ensures ready { IsReady stage.new }
+    ensures more { IfOk result (λ _. entries_of stage.new ≤ entries_of stage.old + 1) }
+    ensures none { OnErr result (entries_of stage.new ≤ entries_of stage.old) }
+{
+    match lead(alloc, stage, line)? {
+        Lead::GoesOn => Ok(Step::GoesOn),
+        Lead::Refused(why) => Ok(Step::Refused(why)),
+        Lead::Tells(read) => judge_untagged(stage, &read),
+    }
+}
+
+/// What a line of a journal without keys leads to.
+#[inline(never)]
+fn come_untagged(
+    alloc: Global,
+    stage: &mut Stage,
+    line: &[u8],
+    newline_came: bool,
+) -> Result<Came, OutOfMemory>
+    requires ready { IsReady stage.old }
+    requires few { entries_of stage.old + 1 < 2 ^ 64 }
+    requires short { length line.now ≤ most_bytes }
+    ensures came { IfOk result (λ came. came_given came stage.new ≡ untagged_came stage.old line.now newline_came) }
+    ensures ready { IsReady stage.new }
+    ensures more { IfOk result (λ _. entries_of stage.new ≤ entries_of stage.old + 1) }
+    ensures none { OnErr result (entries_of stage.new ≤ entries_of stage.old) }
+{
+    if newline_came {
+        Ok(Came::Whole(next_untagged(alloc, stage, line)?))
+    } else {
+        Ok(cut_last(ended(alloc, stage)))
+    }
+}
+
+/// What a line leads to in a journal with keys or without.
+fn come_as(
+    alloc: Global,
+    tagging: Tagging,
+    stage: &mut Stage,
+    line: &[u8],
+    newline_came: bool,
+) -> Result<Came, OutOfMemory>
+    requires ready { IsReady stage.old }
+    requires few { entries_of stage.old + 1 < 2 ^ 64 }
+    requires short { length line.now ≤ most_bytes }
+    ensures came { IfOk result (λ came. came_given came stage.new ≡ came_as tagging stage.old line.now newline_came) }
+    ensures ready { IsReady stage.new }
+    ensures more { IfOk result (λ _. entries_of stage.new ≤ entries_of stage.old + 1) }
+    ensures none { OnErr result (entries_of stage.new ≤ entries_of stage.old) }
+{
+    match tagging {
+        Tagging::Tagged => come(alloc, stage, line, newline_came),
+        Tagging::Untagged => come_untagged(alloc, stage, line, newline_came),
+    }
+}
+
+/// The line that names the members that have keys.
+#[inline(never)]
+fn name_peers(alloc: Global, stage: &mut Stage, line: &[u8]) -> Result<Step, OutOfMemory>
+    requires ready { IsReady stage.old }
+    requires short { length line.now ≤ most_bytes }
+    ensures step { IfOk result (λ step. step_given step stage.new ≡ peers_step stage.old line.now) }
+    ensures ready { IsReady stage.new }
+    ensures more { IfOk result (λ _. entries_of stage.new ≤ entries_of stage.old) }
+    ensures none { OnErr result (entries_of stage.new ≤ entries_of stage.old) }
+{
+    let taken = mem::replace(stage, Stage::Heading);
+    let (left, step) = peered(alloc, taken, &Words::of(line))?;
+    *stage = left;
+    Ok(step)
+}
+
+/// What a line behind so many leads to, and whether the journal has keys then.
+fn come_behind(
+    alloc: Global,
+    lines: u32,
+    tagging: &mut Tagging,
+    stage: &mut Stage,
+    line: &[u8],
+    newline_came: bool,
+) -> Result<Came, OutOfMemory>
+    requires ready { IsReady stage.old }
+    requires few { entries_of stage.old + 1 < 2 ^ 64 }
+    requires short { length line.now ≤ most_bytes }
+    ensures came { IfOk result (λ came. came_given came stage.new
+        ≡ came_behind lines tagging.old stage.old line.now newline_came) }
+    ensures tagging { OnOk result (tagging.new ≡ tagging_behind lines tagging.old stage.old line.now) }
+    ensures ready { IsReady stage.new }
+    ensures more { IfOk result (λ _. entries_of stage.new ≤ entries_of stage.old + 1) }
+    ensures none { OnErr result (entries_of stage.new ≤ entries_of stage.old) }
+{
+    if names_peers(lines, stage, &Words::of(line)) {
+        let step = name_peers(alloc, stage, line)?;
+        *tagging = Tagging::Untagged;
+        return Ok(Came::Whole(step));
+    }
+    come_as(alloc, *tagging, stage, line, newline_came)
 }

@@ -1,12 +1,13 @@
 // A journal, line by line.
-ghost use Rattle.std.specs.Prelude.{◌≡◌, ◌+◌, ◌++◌, ◌<◌, ◌≤◌, ◌^◌, None, IfOk, OnErr, OnOk, decimal};
+ghost use Rattle.std.specs.Prelude.{◌≡◌, ℕ, List, ◌+◌, ◌++◌, ◌<◌, ◌≤◌, ◌^◌, None, IfOk, OnErr, OnOk, decimal};
 ghost use Rattle.std.specs.String.{string_bytes};
-ghost use Rattle.xl_audit.specs.Auditing.{bad_line, bad_text, beyond, ended, heading_step, no_line, set, yes_line};
-ghost use Rattle.xl_audit.specs.Audits.{cut_line};
-ghost use Rattle.xl_audit.specs.Cuts.{judged_last, refused_behind};
+ghost use Rattle.xl_audit.specs.Auditing.{bad_line, bad_text, beyond, ended, heading_step, no_line, set};
+ghost use Rattle.xl_audit.specs.Audits.{all_line, cut_line, ending};
+ghost use Rattle.xl_audit.specs.Cuts.{cut_behind, judged_last, names_peers, opened_step, peered as peered_step, peers_step, refused_behind};
 ghost use Rattle.xl_audit.specs.Judging.{IsReady, IsRefused, MayOpen, came_given, entries_of, step_given};
 ghost use Rattle.xl_audit.specs.Leading.{IsAskedAt, judged_at, lead_given, leads, read_lead};
 ghost use Rattle.xl_audit.specs.Opening.{core_of, opening_in, unmet};
+ghost use Rattle.xl_audit.specs.Peers.{peers_in};
 ghost use Rattle.xl_audit.specs.Reading.{entry_in};
 ghost use Rattle.xl_audit.specs.Words.{tokens};
 
@@ -16,6 +17,7 @@ use crate::entries::{ReadEntry, entry};
 use crate::key_ring::KeyRing;
 use crate::limits::{MOST_BYTES, MOST_LINES};
 use crate::opening::{Opening, read_opening, unmet};
+use crate::tagging::Tagging;
 use crate::words::Words;
 use std::alloc::Global;
 use std::fmt::Write;
@@ -136,7 +138,7 @@ pub fn read_entry<'a>(
 pub fn judge_read(stage: &mut Stage, read: &ReadEntry<'_>) -> Result<Step, OutOfMemory>
     requires asked { IsAskedAt stage.old read.now }
     requires few { entries_of stage.old + 1 < 2 ^ 64 }
-    ensures step { IfOk result (λ step. step_given step stage.new ≡ judged_at stage.old read.now) }
+    ensures step { IfOk result (λ step. step_given step stage.new ≡ judged_at Tagging.Tagged stage.old read.now) }
     ensures ready { IsReady stage.old → IsReady stage.new }
     ensures more { IfOk result (λ _. entries_of stage.new ≤ entries_of stage.old + 1) }
     ensures none { OnErr result (entries_of stage.new ≤ entries_of stage.old) }
@@ -145,6 +147,28 @@ pub fn judge_read(stage: &mut Stage, read: &ReadEntry<'_>) -> Result<Step, OutOf
         Stage::Judging { auditor, entries } => {
             let mut answer = CoreAnswer::Done;
             if auditor.judge(&read.entry, read.reply, &mut answer)? {
+                *entries += 1;
+                Ok(Step::GoesOn)
+            } else {
+                Ok(Step::Wrong(*entries + 1))
+            }
+        }
+        _ => Ok(Step::GoesOn),
+    }
+}
+
+/// An entry of a journal without keys is judged, and counted if it is right.
+pub fn judge_untagged(stage: &mut Stage, read: &ReadEntry<'_>) -> Result<Step, OutOfMemory>
+    requires asked { IsAskedAt stage.old read.now }
+    requires few { entries_of stage.old + 1 < 2 ^ 64 }
+    ensures step { IfOk result (λ step. step_given step stage.new ≡ judged_at Tagging.Untagged stage.old read.now) }
+    ensures ready { IsReady stage.old → IsReady stage.new }
+    ensures more { IfOk result (λ _. entries_of stage.new ≤ entries_of stage.old + 1) }
+    ensures none { OnErr result (entries_of stage.new ≤ entries_of stage.old) }
+{
+    match stage {
+        Stage::Judging { auditor, entries } => {
+            if auditor.judge_untagged(&read.entry, read.reply)? {
                 *entries += 1;
                 Ok(Step::GoesOn)
             } else {
@@ -187,6 +211,93 @@ pub fn refuse_last(before: Result<u64, BadLine>, why: BadLine) -> Came
     match before {
         Ok(entries) => Came::Cut(entries),
         Err(_) => Came::Whole(Step::Refused(why)),
+    }
+}
+
+/// A last line that lacks its newline isn't judged without keys.
+pub fn cut_last(before: Result<u64, BadLine>) -> Came
+    ensures { (stage : Stage) → came_given result stage ≡ cut_behind before }
+{
+    match before {
+        Ok(entries) => Came::Cut(entries),
+        Err(early) => Came::Whole(Step::Refused(early)),
+    }
+}
+
+/// The core opens at once with the public keys of the members that are named, if each listed one is.
+fn open_peered(alloc: Global, opening: Opening, keys: KeyRing) -> Result<(Stage, Step), OutOfMemory>
+    requires may { MayOpen opening keys }
+    ensures step { IfOk result (λ done. step_given done.1 done.0
+        ≡ opened_step opening keys (unmet keys opening.list.members)) }
+    ensures ready { IfOk result (λ done. IsReady done.0) }
+    ensures none { IfOk result (λ done. entries_of done.0 ≡ 0) }
+{
+    match unmet(keys.keys(), &opening.list) {
+        Some(member) => Ok((Stage::Heading, Step::Refused(BadLine::Keyless(member)))),
+        None => {
+            let auditor = opened(alloc, opening, keys)?;
+            Ok((
+                Stage::Judging {
+                    auditor,
+                    entries: 0,
+                },
+                Step::GoesOn,
+            ))
+        }
+    }
+}
+
+/// The core opens with the public keys of the members that a line names.
+fn named<'a>(
+    alloc: Global,
+    opening: Opening,
+    keys: KeyRing,
+    words: &Words<'a>,
+) -> Result<(Stage, Step), OutOfMemory>
+    requires may { MayOpen opening keys }
+    ensures step { IfOk result (λ done. step_given done.1 done.0 ≡ peered_step opening (peers_in keys words.now)) }
+    ensures ready { IfOk result (λ done. IsReady done.0) }
+    ensures none { IfOk result (λ done. entries_of done.0 ≡ 0) }
+{
+    let mut keys = keys;
+    match keys.add_peers(alloc, words) {
+        Ok(()) => open_peered(alloc, opening, keys),
+        Err(fault) => {
+            let why = refused(alloc, fault)?;
+            Ok((Stage::Heading, Step::Refused(why)))
+        }
+    }
+}
+
+/// The line that names the members.
+pub fn peered<'a>(
+    alloc: Global,
+    stage: Stage,
+    words: &Words<'a>,
+) -> Result<(Stage, Step), OutOfMemory>
+    requires ready { IsReady stage }
+    ensures step { IfOk result (λ done. (line : List ℕ) → words.now ≡ tokens line
+        → step_given done.1 done.0 ≡ peers_step stage line) }
+    ensures ready { IfOk result (λ done. IsReady done.0) }
+    ensures none { IfOk result (λ done. entries_of done.0 ≤ entries_of stage) }
+{
+    match stage {
+        Stage::Keying { opening, keys } => named(alloc, opening, keys, words),
+        Stage::Heading => Ok((Stage::Heading, Step::GoesOn)),
+        Stage::Setting => Ok((Stage::Setting, Step::GoesOn)),
+        Stage::Judging { auditor, entries } => {
+            Ok((Stage::Judging { auditor, entries }, Step::GoesOn))
+        }
+    }
+}
+
+/// Whether a line names the members that have keys: it may be the third.
+pub fn names_peers(lines: u32, stage: &Stage, words: &Words<'_>) -> bool
+    ensures { (line : List ℕ) → words.now ≡ tokens line → result ≡ names_peers lines stage.now line }
+{
+    match stage {
+        Stage::Keying { .. } => words.first() == b"peers".as_slice() && lines == 2,
+        _ => false,
     }
 }
 
@@ -281,18 +392,30 @@ fn push_bad_text(text: &mut String, line: u64, code: u32, token: &[u8]) -> Resul
     Ok(())
 }
 
-pub fn push_yes(text: &mut String, entries: u64) -> Result<(), OutOfMemory>
-    ensures { OnOk result (string_bytes text.new ≡ string_bytes text.old ++ yes_line entries) }
+/// A yes of a journal without keys says so at its end: all was judged but the tags.
+fn ending(tagging: Tagging) -> &'static str
+    ensures { result.now ≡ ending tagging }
 {
-    writeln!(text, "yes {entries}")?;
+    match tagging {
+        Tagging::Tagged => "\n",
+        Tagging::Untagged => " untagged\n",
+    }
+}
+
+pub fn push_yes(text: &mut String, tagging: Tagging, entries: u64) -> Result<(), OutOfMemory>
+    ensures { OnOk result (string_bytes text.new ≡ string_bytes text.old ++ all_line tagging entries) }
+{
+    let ending = ending(tagging);
+    write!(text, "yes {entries}{ending}")?;
     Ok(())
 }
 
 /// Behind a last line that is cut short.
-pub fn push_cut(text: &mut String, entries: u64) -> Result<(), OutOfMemory>
-    ensures { OnOk result (string_bytes text.new ≡ string_bytes text.old ++ cut_line entries) }
+pub fn push_cut(text: &mut String, tagging: Tagging, entries: u64) -> Result<(), OutOfMemory>
+    ensures { OnOk result (string_bytes text.new ≡ string_bytes text.old ++ cut_line tagging entries) }
 {
-    writeln!(text, "yes {entries} cut")?;
+    let ending = ending(tagging);
+    write!(text, "yes {entries} cut{ending}")?;
     Ok(())
 }
 

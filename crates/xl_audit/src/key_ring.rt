@@ -1,8 +1,11 @@
-ghost use Rattle.std.specs.Prelude.{◌≡◌, IfOk, MatchResult};
+ghost use Rattle.std.specs.Prelude.{◌≡◌, ◌⊎◌, IfOk, MatchResult};
+ghost use Rattle.xl_sched.specs.declared.refusal.SchedRefusal.TheVariants as refusal;
 ghost use Rattle.xl_audit.specs.Opening.{key_in};
+ghost use Rattle.xl_audit.specs.Peers.{peers_in};
 ghost use Rattle.xl_tags.specs.Rings.{IsRing, no_keys};
 
 use crate::opening::add_key;
+use crate::peers::add_peers;
 use crate::words::Words;
 use std::alloc::Global;
 use std::marker::Model;
@@ -55,6 +58,16 @@ impl KeyRing {
             (λ fault. (key_in self.old words.now ≡ Err fault) × (self.new ≡ self.old)) }
     {
         add_key(&mut *self.keys, words)
+    }
+
+    /// The public keys of the members that the line of these tokens names are kept.
+    pub fn add_peers<'a>(&mut self, alloc: Global, words: &Words<'a>) -> Result<(), LineFault<'a>>
+        ensures value { MatchResult result
+            (λ _. peers_in self.old words.now ≡ Ok self.new)
+            (λ fault. (fault ≡ refusal.OutOfMemory) ⊎ (peers_in self.old words.now ≡ Err fault)) }
+        ensures me { self.new.me ≡ self.old.me }
+    {
+        add_peers(alloc, &mut *self.keys, words)
     }
 
     pub fn into_keys(self) -> Keys

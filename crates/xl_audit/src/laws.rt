@@ -1,4 +1,4 @@
-ghost use Rattle.xl_audit.specs.Laws.{LegalIsRight, RightIsLegal};
+ghost use Rattle.xl_audit.specs.Laws.{LegalIsRight, RightIsLegal, UntaggedIsLegal};
 ghost use Rattle.xl_audit.specs.Rereading.{WrittenGetsYes};
 ghost use Rattle.xl_audit.specs.Texts.{NoOfTheText, TextIsJudged, YesOfTheText};
 ghost use Rattle.xl_audit.specs.Verdicts.{NoNamesTheFirst, YesIsRight};
@@ -37,4 +37,10 @@ pub fn whole_texts()
 /// lines.
 pub fn written_gets_yes()
     ensures { WrittenGetsYes }
+{}
+
+/// The law of journals without keys, which has no code: if each entry is right, the history with its tags put right, or
+/// wrong if the journal says that they were, is legal, and the replies are those of its steps, except for tags.
+pub fn untagged_is_legal()
+    ensures { UntaggedIsLegal }
 {}

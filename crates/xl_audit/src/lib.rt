@@ -4,7 +4,10 @@
 //! opens a core anew and steps it by each entry. An entry is right exactly if its save can have been answered so, and
 //! if its reply is the one that the core's step gives.
 //!
-//! It stands on xl_core and on xl_store's journals. Its one contract: where each entry is right, the entries are a legal
+//! A journal without keys is for whoever isn't to learn them. Its auditor has public keys in their place, with which it
+//! puts each tag right, so that everything but the tags is checked.
+//!
+//! It stands on xl_core and on xl_store's journals. Its one contract: if each entry is right, the entries are a legal
 //! history of the core, with the replies that are written.
 //!
 //! ```
@@ -26,11 +29,14 @@ mod key_ring;
 mod laws;
 mod limits;
 mod opening;
+mod peers;
 mod replies;
 mod reply_text;
 mod saving;
 mod stepping;
+mod tagging;
 mod tokens;
+mod untagged;
 mod values;
 mod word;
 mod words;
@@ -43,9 +49,11 @@ pub use entries::ReadEntry;
 pub use judge::lead;
 pub use judging::{BadLine, Lead, Stage, Step, beyond, ended, push_bad};
 pub use key_ring::KeyRing;
-pub use laws::{legal_is_right, right_is_legal, whole_texts, written_gets_yes, yes_and_no};
+pub use laws::{
+    legal_is_right, right_is_legal, untagged_is_legal, whole_texts, written_gets_yes, yes_and_no,
+};
 pub use limits::{MOST_BYTES, MOST_LINES};
 pub use opening::Opening;
 pub use stepping::AuditedCore;
-pub use writing::write_journal;
+pub use writing::{write_journal, write_untagged_journal};
 pub use written::Written;

@@ -1,5 +1,5 @@
 // A core that is stepped by an entry, and the text of its reply.
-ghost use Rattle.std.specs.Prelude.{◌≡◌, ◌≤◌, ◌++◌, [], length, take, false, IfOk, IsSome, OnOk};
+ghost use Rattle.std.specs.Prelude.{◌≡◌, ◌≤◌, ◌++◌, [], length, take, drop, false, IfOk, IsSome, OnOk};
 ghost use Rattle.xl_base.specs.Moments.{greatest_millis};
 ghost use Rattle.xl_tags.specs.Rings.{key_of};
 ghost use Rattle.xl_wire.specs.Lengths.{longest_frame};
@@ -15,6 +15,7 @@ ghost use Rattle.xl_audit.specs.Stepping.{Retells, RetellsAs, RetellsDeed, Repli
 use crate::replies::{push_answer, push_bytes, push_reports};
 use crate::reply_text::ReplyText;
 use crate::saving::EntryKeeper;
+use crate::tagging::Tagging;
 use std::alloc::Global;
 use xl_base::{LedgerId, NodeNo, OutOfMemory};
 use xl_core::{Core, CoreAnswer, CoreEvent, Deed, Hashes, Report};
@@ -48,7 +49,7 @@ fn reply_to_deed<T: ReplyText>(
     requires may { MayHappen core.old deed.now }
     requires fresh { IsFresh keeper.old }
     requires text { T.told text.old ≡ [] }
-    ensures text { OnOk result (RetellsAs core.old (event_for core.old deed.now) keeper.old.answer
+    ensures text { OnOk result (RetellsAs Tagging.Tagged core.old (event_for core.old deed.now) keeper.old.answer
         core.new (T.told text.new) keeper.new.asked) }
     ensures told { Retells core.old (event_for core.old deed.now) keeper.old.answer
         core.new (answer_of answer.new) keeper.new.asked }
@@ -66,10 +67,26 @@ fn first_bytes(bytes: &[u8], count: usize) -> &[u8]
     &bytes[..count]
 }
 
+/// Drains for a peer into a room, with tags or without.
+fn drain_into(core: &mut AuditedCore, member: NodeNo, tagging: Tagging, room: &mut [u8]) -> usize
+    requires peer { IsSome (key_of core.old.node.keys member) }
+    requires room { longest_frame ≤ length room.old }
+    ensures core { core.new ≡ after_drain core.old member (length room.old) }
+    ensures count { result ≡ length (bytes_given tagging core.old member (length room.old)) }
+    ensures room { room.new ≡ bytes_given tagging core.old member (length room.old) ++ drop result room.old }
+    ensures nothing { result ≡ 0 → frames_in (all_frames core.old member) ≡ [] }
+{
+    match tagging {
+        Tagging::Tagged => core.drain(member, room),
+        Tagging::Untagged => core.drain_blank(member, room),
+    }
+}
+
 /// Drains for a peer into the front of a room, and puts what is given behind the rest.
 fn drain_once(
     core: &mut AuditedCore,
     member: NodeNo,
+    tagging: Tagging,
     room: &mut [u8; ROOM],
     part: usize,
     given: &mut Vec<u8>,
@@ -78,12 +95,12 @@ fn drain_once(
     requires least { longest_frame ≤ part }
     requires most { part ≤ 16480 }
     ensures core { core.new ≡ after_drain core.old member part }
-    ensures given { OnOk result (given.new.items ≡ given.old.items ++ bytes_given core.old member part) }
-    ensures count { IfOk result (λ count. count ≡ length (bytes_given core.old member part)) }
+    ensures given { OnOk result (given.new.items ≡ given.old.items ++ bytes_given tagging core.old member part) }
+    ensures count { IfOk result (λ count. count ≡ length (bytes_given tagging core.old member part)) }
     ensures nothing { IfOk result (λ count. count ≡ 0 → frames_in (all_frames core.old member) ≡ []) }
 {
     let front = &mut room[..part];
-    let count = core.drain(member, front);
+    let count = drain_into(core, member, tagging, front);
     given.extend_from_slice(first_bytes(front, count))?;
     Ok(count)
 }
@@ -95,24 +112,25 @@ fn drain_all(
     alloc: Global,
     core: &mut AuditedCore,
     member: NodeNo,
+    tagging: Tagging,
     room: usize,
     piece: &mut [u8; ROOM],
 ) -> Result<Vec<u8>, OutOfMemory>
     requires peer { IsSome (key_of core.old.node.keys member) }
     requires room { longest_frame ≤ room }
     ensures core { OnOk result (core.new ≡ after_drain core.old member room) }
-    ensures given { IfOk result (λ given. given.items ≡ bytes_given core.old member room) }
+    ensures given { IfOk result (λ given. given.items ≡ bytes_given tagging core.old member room) }
 {
     let mut given = Vec::new(alloc);
     let mut left = room;
     while left > ROOM {
-        let count = drain_once(core, member, piece, LONGEST_FRAME, &mut given)?;
+        let count = drain_once(core, member, tagging, piece, LONGEST_FRAME, &mut given)?;
         if count == 0 {
             return Ok(given);
         }
         left -= count;
     }
-    drain_once(core, member, piece, left, &mut given)?;
+    drain_once(core, member, tagging, piece, left, &mut given)?;
     Ok(given)
 }
 
@@ -121,24 +139,27 @@ fn reply_to_short_drain<T: ReplyText>(
     alloc: Global,
     core: &mut AuditedCore,
     member: NodeNo,
+    tagging: Tagging,
     room: &mut [u8],
     text: &mut T,
 ) -> Result<(), OutOfMemory>
     requires peer { IsSome (key_of core.old.node.keys member) }
     requires room { longest_frame ≤ length room.old }
     requires text { T.told text.old ≡ [] }
-    ensures text { OnOk result (Replies core.old (Drain member (length room.old)) core.new (T.told text.new)) }
+    ensures text { OnOk result
+        (Replies tagging core.old (Drain member (length room.old)) core.new (T.told text.new)) }
     ensures keys { OnOk result (core.new.node.keys ≡ core.old.node.keys) }
 {
-    let count = core.drain(member, room);
+    let count = drain_into(core, member, tagging, room);
     push_bytes(alloc, text, first_bytes(room, count))
 }
 
 /// What waits for a peer is drained, and told as digits. Only what doesn't fit into the room that is there takes memory.
-fn reply_to_drain<T: ReplyText>(
+pub(crate) fn reply_to_drain<T: ReplyText>(
     alloc: Global,
     core: &mut AuditedCore,
     member: NodeNo,
+    tagging: Tagging,
     room: usize,
     piece: &mut [u8; ROOM],
     text: &mut T,
@@ -146,13 +167,13 @@ fn reply_to_drain<T: ReplyText>(
     requires peer { IsSome (key_of core.old.node.keys member) }
     requires room { longest_frame ≤ room }
     requires text { T.told text.old ≡ [] }
-    ensures text { OnOk result (Replies core.old (Drain member room) core.new (T.told text.new)) }
+    ensures text { OnOk result (Replies tagging core.old (Drain member room) core.new (T.told text.new)) }
     ensures keys { OnOk result (core.new.node.keys ≡ core.old.node.keys) }
 {
     if room <= ROOM {
-        return reply_to_short_drain(alloc, core, member, &mut piece[..room], text);
+        return reply_to_short_drain(alloc, core, member, tagging, &mut piece[..room], text);
     }
-    let given = drain_all(alloc, core, member, room, piece)?;
+    let given = drain_all(alloc, core, member, tagging, room, piece)?;
     push_bytes(alloc, text, given.as_slice())
 }
 
@@ -232,7 +253,7 @@ fn reply_to_reports<T: ReplyText>(
     text: &mut T,
 ) -> Result<(), OutOfMemory>
     requires text { T.told text.old ≡ [] }
-    ensures text { OnOk result (Replies core.old (Reports room) core.new (T.told text.new)) }
+    ensures text { OnOk result (Replies Tagging.Tagged core.old (Reports room) core.new (T.told text.new)) }
     ensures keys { OnOk result (core.new.node.keys ≡ core.old.node.keys) }
 {
     if room < PIECE {
@@ -262,7 +283,7 @@ pub fn reply_to<T: ReplyText>(
     requires allowed { IsAllowed core.old event.now }
     requires fresh { IsFresh keeper.old }
     requires text { T.told text.old ≡ [] }
-    ensures text { OnOk result (RetellsAs core.old event.now keeper.old.answer
+    ensures text { OnOk result (RetellsAs Tagging.Tagged core.old event.now keeper.old.answer
         core.new (T.told text.new) keeper.new.asked) }
     ensures told { OnOk result (RetellsDeed core.old event.now keeper.old.answer
         core.new answer.new keeper.new.asked) }
@@ -305,7 +326,9 @@ pub fn reply_to<T: ReplyText>(
         }
         CoreEvent::Stop => reply_to_deed(alloc, core, &Deed::Stop, keeper, text, answer),
         CoreEvent::Stopped => reply_to_deed(alloc, core, &Deed::Stopped, keeper, text, answer),
-        CoreEvent::Drain { member, room } => reply_to_drain(alloc, core, member, room, piece, text),
+        CoreEvent::Drain { member, room } => {
+            reply_to_drain(alloc, core, member, Tagging::Tagged, room, piece, text)
+        }
         CoreEvent::Reports { room } => reply_to_reports(alloc, core, room, text),
     }
 }

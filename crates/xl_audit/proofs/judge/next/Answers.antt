@@ -3,6 +3,7 @@ use Rattle.std.proofs.Common.{◌≡◌, ◌∙◌, ap, subst, sym}
 use Rattle.std.specs.Prelude.{IfOk}
 use Rattle.xl_audit.specs.Auditing.{Step, goes_on, refuses, step}
 use Rattle.xl_audit.specs.Judging.{step_given}
+use Rattle.xl_audit.specs.declared.tagging.Tagging.TheVariants.{Tagged}
 use Rattle.xl_audit.specs.Leading.{IsAskedIn, judged_at, judged_lead, lead, lead_given, leads, tells}
 use Rattle.xl_audit.proofs.Leading.{lead_asked, step_is}
 use Rattle.xl_audit.proofs.judge.next.Goals as goal
@@ -17,19 +18,19 @@ pub returns-in-GoesOn-clause-step : goal.returns-in-GoesOn-clause-step
 returns-in-GoesOn-clause-step c =
     let is : leads (goes_on c.lead.new.stage) ≡ lead c.args.stage.now c.args.line.now =
     sym (ap (λ l. lead_given l c.lead.new.stage) c.in-GoesOn.is) ∙ c.in_ok-lead.ensures.lead in
-    ap judged_lead is ∙ sym (step_is c.args.stage.now c.args.line.now)
+    ap (judged_lead Tagged) is ∙ sym (step_is c.args.stage.now c.args.line.now)
 
 pub returns-in-Refused-clause-step : goal.returns-in-Refused-clause-step
 returns-in-Refused-clause-step c =
     let is : leads (refuses c.in-Refused.why) ≡ lead c.args.stage.now c.args.line.now =
     sym (ap (λ l. lead_given l c.lead.new.stage) c.in-Refused.is) ∙ c.in_ok-lead.ensures.lead in
-    ap judged_lead is ∙ sym (step_is c.args.stage.now c.args.line.now)
+    ap (judged_lead Tagged) is ∙ sym (step_is c.args.stage.now c.args.line.now)
 
 pub returns-in-Tells-clause-step : goal.returns-in-Tells-clause-step
 returns-in-Tells-clause-step c =
     let is : tells c.lead.new.stage c.in-Tells.read ≡ lead c.args.stage.now c.args.line.now =
     sym (ap (λ l. lead_given l c.lead.new.stage) c.in-Tells.is) ∙ c.in_ok-lead.ensures.lead in
-    let whole : judged_at c.lead.new.stage c.in-Tells.read ≡ step c.args.stage.now c.args.line.now =
-    ap judged_lead is ∙ sym (step_is c.args.stage.now c.args.line.now) in
+    let whole : judged_at Tagged c.lead.new.stage c.in-Tells.read ≡ step c.args.stage.now c.args.line.now =
+    ap (judged_lead Tagged) is ∙ sym (step_is c.args.stage.now c.args.line.now) in
     subst (λ (s : Step). IfOk c.judge_read.result (λ done. step_given done c.judge_read.new.stage ≡ s)) whole
     c.judge_read.ensures.step

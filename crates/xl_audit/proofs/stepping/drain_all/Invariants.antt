@@ -6,7 +6,7 @@ use Rattle.xl_audit.proofs.stepping.drain_all.Given as goal
 -- what is left is still to be drained, and a frame fits into it, whichever it is
 abbrev pub invariant-loop-left : goal.invariant-loop-left
 invariant-loop-left l = record {
-  so_far : HasDrained l.initial.core l.member l.room l.core l.left l.given.items;
+  so_far : HasDrained l.tagging l.initial.core l.member l.room l.core l.left l.given.items;
   enough : longest_frame ≤ l.left;
 }
 

@@ -1,13 +1,14 @@
 use Rattle.std.proofs.Common.{◌∙◌, ap}
 use Rattle.xl_core.specs.Core.{Core}
 use Rattle.xl_core.specs.Deeds.{answer_of, event_for, save_told}
+use Rattle.xl_audit.specs.declared.tagging.Tagging.TheVariants.{Tagged}
 use Rattle.xl_audit.proofs.Staying.{core_keys}
 use Rattle.xl_audit.proofs.Telling.{happened_ok, happened_so}
 use Rattle.xl_audit.proofs.stepping.reply_to_deed.Goals as goal
 
 pub returns-clause-text : goal.returns-clause-text
 returns-clause-text g c =
-    happened_ok c.push_answer.result c.args.core.now c.happen.new.self (event_for c.args.core.now c.args.deed.now)
+    happened_ok c.push_answer.result Tagged c.args.core.now c.happen.new.self (event_for c.args.core.now c.args.deed.now)
     c.happen.new.answer c.args.keeper.now c.happen.new.keeper (g.T.ReplyText.told c.args.text.now)
     (g.T.ReplyText.told c.push_answer.new.text) c.requires.fresh c.happen.ensures c.requires.text c.push_answer.ensures
 

@@ -6,6 +6,7 @@ use Rattle.xl_core.specs.declared.report.Report.{Report}
 use Rattle.xl_core.specs.Answers.{Handed}
 use Rattle.xl_core.specs.Core.{Core}
 use Rattle.xl_audit.specs.Pieces.{handed_out}
+use Rattle.xl_audit.specs.declared.tagging.Tagging.TheVariants.{Tagged}
 use Rattle.xl_audit.specs.Replies.{reply_text}
 use Rattle.xl_audit.specs.Stepping.{Replies}
 use Rattle.xl_audit.proofs.Pieces.{few_reports, filled, reports_both}
@@ -14,9 +15,9 @@ use Rattle.xl_audit.proofs.stepping.reply_to_reports.Goals as goal
 
 handed_ok : {T E : Type 0} (r : Result T E) (before after : Core) (room : ℕ) (old new : List ℕ) (given : List Report)
     → after ≡ handed_out before room → given ≡ take room before.untaken.items → old ≡ []
-    → OnOk r (new ≡ old ++ reply_text (Handed given)) → OnOk r (Replies before (Reports room) after new)
+    → OnOk r (new ≡ old ++ reply_text (Handed given)) → OnOk r (Replies Tagged before (Reports room) after new)
 handed_ok r before after room old new given core is empty told =
-    quiet_ok r before after (Reports room) (Handed (take room before.untaken.items)) old new refl
+    quiet_ok r Tagged before after (Reports room) (Handed (take room before.untaken.items)) old new refl
     (record { core = core; answer = refl }) empty
     (subst (λ (xs : List Report). OnOk r (new ≡ old ++ reply_text (Handed xs))) is told)
 

@@ -3,7 +3,7 @@ use Rattle.std.specs.Prelude.{All}
 use Rattle.xl_io.proofs.Growing.{Written}
 use Rattle.xl_turns.specs.Histories.{IsLegal}
 use Rattle.xl_store.specs.Entries.{Leads}
-use Rattle.xl_audit.specs.Journals.{entries_text}
+use Rattle.xl_audit.specs.Journals.{entries_text_as}
 use Rattle.xl_audit.specs.Stored.{IsStored}
 use Rattle.xl_audit.proofs.writing.write_entries.Given as goal
 
@@ -11,7 +11,7 @@ use Rattle.xl_audit.proofs.writing.write_entries.Given as goal
 abbrev pub invariant-loop-entry : goal.invariant-loop-entry
 invariant-loop-entry g l = record {
   legal : IsLegal Leads l.auditor l.left;
-  written : Written (g.O.Sink.held l.initial.output) (g.O.Sink.held l.output) (entries_text l.initial.auditor l.fn.journal) (entries_text l.auditor l.left);
+  written : Written (g.O.Sink.held l.initial.output) (g.O.Sink.held l.output) (entries_text_as l.fn.tagging l.initial.auditor l.fn.journal) (entries_text_as l.fn.tagging l.auditor l.left);
   stored : All IsStored l.left → All IsStored l.fn.journal;
   later : g.O.Sink.faults l.output ≡ g.O.Sink.faults l.initial.output;
 }
