@@ -1,4 +1,5 @@
 use super::*;
+use std::alloc::Global;
 use std::test::Fail;
 use xl_base::{LedgerId, MOST_MEMBERS, NodeNo, Status};
 use xl_core::Report;
@@ -53,21 +54,25 @@ ledgers 8
 kept 7
 ";
 
+/// The text of a status.
+fn text_of(
+    alloc: Global,
+    status: &NodeStatus,
+    hearing: &Hearing,
+    look: Option<Look>,
+    ended: Option<Status>,
+) -> Result<String, Fail> {
+    let mut text = String::new(alloc);
+    push_status(alloc, &mut text, &profile()?, status, hearing, look, ended)?;
+    Ok(text)
+}
+
 #[test]
 fn tells_who_is_silent(rt: HostRuntime) -> Result<(), Fail> {
     let mut hearing = Hearing::new(5000);
     let status = status(9000)?;
     hearing.note(&status);
-    let mut text = String::new(rt.alloc());
-    push_status(
-        rt.alloc(),
-        &mut text,
-        &profile()?,
-        &status,
-        &hearing,
-        None,
-        None,
-    )?;
+    let text = text_of(rt.alloc(), &status, &hearing, None, None)?;
     let id = "0a0a0a0a0a0a0a0a0a0a0a0a0a0a0a0a0a0a0a0a0a0a0a0a0a0a0a0a0a0a0a0a";
     let told = format!(in rt.alloc();
         "{FRONT}issues yes\nreport 6 {id}\nprefers none\nlost 0\nquorum 2\nheard 1\nheard 2\nsilent 3 5000\nruns\n"
@@ -81,17 +86,8 @@ fn tells_how_it_ended(rt: HostRuntime) -> Result<(), Fail> {
     let mut status = status(9000)?;
     status.failed_save = Some(8);
     status.last = None;
-    let mut text = String::new(rt.alloc());
     let ended = Some(Status::KeepFault);
-    push_status(
-        rt.alloc(),
-        &mut text,
-        &profile()?,
-        &status,
-        &Hearing::new(5000),
-        None,
-        ended,
-    )?;
+    let text = text_of(rt.alloc(), &status, &Hearing::new(5000), None, ended)?;
     let told = format!(in rt.alloc();
         "{FRONT}issues no 8\nreport none\nprefers none\nlost 0\nquorum 2\nheard 1\nheard 2\nsilent 3 5000\nended 7 xl.keep\n"
     )?;
@@ -122,16 +118,7 @@ fn tells_which_line_of_the_rolls_was_refused(rt: HostRuntime) -> Result<(), Fail
             "rolls refused 3 55\nruns\n",
         ),
     ] {
-        let mut text = String::new(rt.alloc());
-        push_status(
-            rt.alloc(),
-            &mut text,
-            &profile()?,
-            &status,
-            &hearing,
-            Some(look),
-            None,
-        )?;
+        let text = text_of(rt.alloc(), &status, &hearing, Some(look), None)?;
         assert!(rt; text.as_str().ends_with(line));
     }
     Ok(())
