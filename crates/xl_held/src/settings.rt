@@ -70,7 +70,12 @@ pub fn push_new_time(
     push_time(text, node, time)
 }
 
-pub fn push_new_kept(text: &mut String, node: NodeNo, before: Seq, kept: Seq) -> Result<(), OutOfMemory>
+pub fn push_new_kept(
+    text: &mut String,
+    node: NodeNo,
+    before: Seq,
+    kept: Seq,
+) -> Result<(), OutOfMemory>
     ensures { OnOk result (string_bytes text.new
         ≡ string_bytes text.old ++ unless (before == kept) (kept_line node kept)) }
 {

@@ -1,21 +1,16 @@
 -- The lines that a report hasn't. Source: this project's own formats.
-use Rattle.std.specs.Prelude.{◌≡◌, ◌==◌, ◌&&◌, ◌||◌, ℕ, Bool, true, false, not, List, [], ◌∷◌, ◌++◌, codes, filter, if◌then◌else◌}
-use Rattle.std.specs.List.{flat_map}
+use Rattle.std.specs.Prelude.{◌≡◌, ◌||◌, ℕ, Bool, not, List, [], ◌++◌, codes, filter, if◌then◌else◌, nat_eq}
+use Rattle.std.specs.List.{flat_map, starts_with}
 use Rattle.xl_lines.specs.Lines.{Line, lines_of}
 use Rattle.xl_lines.specs.Rules.{Told}
 use Rattle.xl_replay.specs.Replays.{report_of, report_soon}
 use Rattle.xl_running.specs.Texts.{newline}
 use Rattle.xl_tell.specs.Tellings.{telling_of, telling_soon}
 
--- a line begins with a word
-abbrev pub begins : List ℕ → List ℕ → Bool
-begins [] line = true
-begins (b ∷ word) [] = false
-begins (b ∷ word) (c ∷ line) = b == c && begins word line
-
 -- a line that only `tell` writes
 abbrev pub is_own : List ℕ → Bool
-is_own line = begins (codes "event ") line || begins (codes "sent ") line || begins (codes "held ") line
+is_own line =
+    starts_with nat_eq line (codes "event ") || starts_with nat_eq line (codes "sent ") || starts_with nat_eq line (codes "held ")
 
 -- a line as it stands in a text
 abbrev pub as_it_stands : Line → List ℕ

@@ -179,13 +179,7 @@ fn note_whole(
 }
 
 /// What a node of this number holds that this may change, which a member says.
-fn note_said(
-    node: &Node<Trie>,
-    number: NodeNo,
-    member: NodeNo,
-    said: &Said,
-    before: &mut Before,
-)
+fn note_said(node: &Node<Trie>, number: NodeNo, member: NodeNo, said: &Said, before: &mut Before)
     ensures { before.new ≡ heard_noted number node.now member (speech_of (body_said said.now)) }
 {
     match said {

@@ -10,8 +10,8 @@ use crate::before::Before;
 use xl_base::{NodeNo, OutOfMemory};
 use xl_core::Node;
 use xl_held::{
-    push_beat_told, push_changed, push_header_heard, push_issue_told, push_opened, push_proposal_heard, push_set_heard,
-    push_tx_heard, push_vote_heard,
+    push_beat_told, push_changed, push_header_heard, push_issue_told, push_opened,
+    push_proposal_heard, push_set_heard, push_tx_heard, push_vote_heard,
 };
 use xl_sched::{Ask, Reader, What};
 use xl_told::Hashed;
@@ -83,7 +83,9 @@ fn push_told_of(
 {
     match before {
         Before::Nobody => Ok(()),
-        Before::Whole { number, noted } => push_changed(text, reader, hashed, *number, &**noted, node),
+        Before::Whole { number, noted } => push_changed(
+            text, reader, hashed, *number, &**noted, node,
+        ),
         Before::Vote { number, noted } => {
             push_vote_heard(text, reader, hashed, *number, noted, node)
         }
