@@ -121,9 +121,6 @@ false_unless : (b : Bool) → (b ≡ true → ⊥) → b ≡ false
 false_unless true never = absurd (never refl)
 false_unless false never = refl
 
-pub short_is_wrong : (core : Core) (w : Written) → likeness_at core w ≡ like.Short → is_right core w ≡ false
-short_is_wrong core w e = false_unless (is_right core w) (λ right. let same = right_is_same core w right in cc)
-
 pub other_is_wrong : (core : Core) (w : Written) → likeness_at core w ≡ like.Other → is_right core w ≡ false
 other_is_wrong core w e = false_unless (is_right core w) (λ right. let same = right_is_same core w right in cc)
 

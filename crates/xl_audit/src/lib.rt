@@ -18,6 +18,7 @@
 #![tactic(auto)]
 
 mod auditor;
+mod coming;
 mod command;
 mod compared;
 mod digits;
@@ -29,6 +30,7 @@ mod key_ring;
 mod laws;
 mod limits;
 mod opening;
+mod peering;
 mod peers;
 mod replies;
 mod reply_text;

@@ -312,14 +312,8 @@ pub fn reply_to<T: ReplyText>(
             reply_to_deed(alloc, core, &Deed::Submit { now, tx }, keeper, text, answer)
         }
         CoreEvent::Relist { now, ref list } => {
-            reply_to_deed(
-                alloc,
-                core,
-                &Deed::Relist { now, list },
-                keeper,
-                text,
-                answer,
-            )
+            let deed = Deed::Relist { now, list };
+            reply_to_deed(alloc, core, &deed, keeper, text, answer)
         }
         CoreEvent::Greet { member } => {
             reply_to_deed(alloc, core, &Deed::Greet { member }, keeper, text, answer)

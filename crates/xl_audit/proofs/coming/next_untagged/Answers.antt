@@ -6,7 +6,7 @@ use Rattle.xl_audit.specs.Judging.{step_given}
 use Rattle.xl_audit.specs.declared.tagging.Tagging.TheVariants.{Untagged}
 use Rattle.xl_audit.specs.Leading.{IsAskedIn, judged_at, judged_lead, lead, lead_given, leads, tells}
 use Rattle.xl_audit.proofs.Leading.{lead_asked}
-use Rattle.xl_audit.proofs.judge.next_untagged.Goals as goal
+use Rattle.xl_audit.proofs.coming.next_untagged.Goals as goal
 
 pub judge_untagged-requires-clause-asked : goal.judge_untagged-requires-clause-asked
 judge_untagged-requires-clause-asked c =
