@@ -80,12 +80,3 @@ passes_line old mid new line calls reply left took later t = record {
       (λ _. let a = t.later in omega (arith, later, a))
       (λ cut. counted_cut old.faults mid.faults new.faults t.taken (text_of reply) cut later t.all);
 }
-
--- none came
-pub passes_quiet : (old new : Doorway) → new.left ≡ old.left → new.took ≡ old.took → old.faults ≤ new.faults
-    → Passes old [] [] old.faults new
-passes_quiet old new left took later = record {
-  left = no_lines_before old.left ∙ ap (lines_before []) (sym left);
-  took = took ∙ sym (append_known-none old.took);
-  counted = later;
-}
