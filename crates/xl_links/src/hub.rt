@@ -29,6 +29,7 @@ pub struct Spare<L> {
 /// What makes the links, and the door at which a node's clients come in.
 pub trait Hub {
     type L: Link + Send + Drop;
+
     type D: Door + Send + Drop;
 
     /// What the next link to a member will show, and the next door, if the hub tells it.

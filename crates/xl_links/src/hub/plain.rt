@@ -28,6 +28,7 @@ impl PlainHub {
 
 impl Hub for PlainHub {
     type L = PlainLink;
+
     type D = MemDoor;
 
     ghost gives = { λ _. offers (λ _. Some silent_wire) (Some silent_doorway) };

@@ -109,6 +109,7 @@ impl<L: Link + Send + Drop> Hub for MemHub<L> {
     ghost use Rattle.xl_links.specs.Ways.{target};
 
     type L = L;
+
     type D = MemDoor;
 
     ghost gives = { λ hub. offers (λ member. option_map L.shows (first_for (spares_of hub) member))
