@@ -52,6 +52,10 @@ speak_at table = or_default usual_speak (whole usual_speak greatest_speak) (at k
 abbrev pub journal_at : Members → Option Bool
 journal_at table = or_default false as_bool (at key.Journal table)
 
+-- whether a journal that is written holds keys and tags
+abbrev pub journal_keys_at : Members → Option Bool
+journal_keys_at table = or_default true as_bool (at key.JournalKeys table)
+
 abbrev pub submits_at : Members → Option (List TxId)
 submits_at table = or_default [] submits_in (at key.Submit table)
 
@@ -74,6 +78,7 @@ in_table table now =
     needs key.Roll (rolls_at table) (λ rolls.
     needs key.Roll (trust_of stated (taken_in table) threshold now) (λ trust.
     needs key.Journal (journal_at table) (λ journal.
+    needs key.JournalKeys (journal_keys_at table) (λ with_keys.
     needs key.Status (status_at table) (λ status.
     needs key.Rolls (rolls_path_at table) (λ looked_at.
     needs key.SubmitAt (submit_at table) (λ address.
@@ -90,10 +95,11 @@ in_table table now =
       speak = speak;
       publishing = trust.publishing;
       journal = journal;
+      journal_keys = with_keys;
       status = status;
       rolls = looked_at;
       submit_at = address;
-    }))))))))))))))))))))
+    })))))))))))))))))))))
 
 abbrev pub unless_unknown : Members → ℕ → Option (List ℕ) → Result Settings SettingsRefusal
 unless_unknown table now (Some text) = Err (Unknown text)

@@ -31,6 +31,8 @@ pub struct Settings {
     pub publishing: Option<Publishing>,
     /// Whether its journal is written once it has run.
     pub journal: bool,
+    /// Whether a journal that is written holds keys and tags. One that is handed on is best without.
+    pub journal_keys: bool,
     /// Where its status is told, if it is.
     pub status: Option<FilePath>,
     /// The text of rolls that is looked at while it runs, if one is. There are publishers then.

@@ -4,7 +4,7 @@ ghost use Rattle.toml.specs.View.{table_view};
 ghost use Rattle.xl_base.specs.Moments.{greatest_millis};
 ghost use Rattle.xl_settings.specs.Answers.{GivenMemory};
 ghost use Rattle.xl_settings.specs.Publishers.{threshold_at};
-ghost use Rattle.xl_settings.specs.Settings.{in_table, me_at, validating_at, limit_at, turns_at, heartbeat_at, run_at, speak_at, journal_at};
+ghost use Rattle.xl_settings.specs.Settings.{in_table, me_at, validating_at, limit_at, turns_at, heartbeat_at, run_at, speak_at, journal_at, journal_keys_at};
 ghost use Rattle.xl_settings.specs.Values.{at, whole, or_default};
 
 use crate::door::submit_at;
@@ -47,10 +47,6 @@ pub fn settings_in(alloc: Global, table: &Table, now: Millis) -> Result<Settings
     let threshold = threshold_at(publishers.len(), table).ok_or(KeyName::Threshold)?;
     rolls.ok_or(KeyName::Roll)?;
     let trust = trust_of(stated, taken, threshold, now).ok_or(KeyName::Roll)?;
-    let journal = journal_at(table).ok_or(KeyName::Journal)?;
-    let status = status_at(alloc, table)?.ok_or(KeyName::Status)?;
-    let rolls = rolls_path_at(alloc, table)?.ok_or(KeyName::Rolls)?;
-    let submit_at = submit_at(alloc, table)?.ok_or(KeyName::SubmitAt)?;
     Ok(Settings {
         me,
         list: trust.list,
@@ -63,10 +59,11 @@ pub fn settings_in(alloc: Global, table: &Table, now: Millis) -> Result<Settings
         peers,
         speak,
         publishing: trust.publishing,
-        journal,
-        status,
-        rolls,
-        submit_at,
+        journal: journal_at(table).ok_or(KeyName::Journal)?,
+        journal_keys: journal_keys_at(table).ok_or(KeyName::JournalKeys)?,
+        status: status_at(alloc, table)?.ok_or(KeyName::Status)?,
+        rolls: rolls_path_at(alloc, table)?.ok_or(KeyName::Rolls)?,
+        submit_at: submit_at(alloc, table)?.ok_or(KeyName::SubmitAt)?,
     })
 }
 
@@ -157,6 +154,15 @@ fn journal_at(table: &Table) -> Option<bool>
     match value_at(table, KeyName::Journal.text()) {
         Some(value) => value.as_bool(),
         None => Some(false),
+    }
+}
+
+fn journal_keys_at(table: &Table) -> Option<bool>
+    ensures { result ≡ journal_keys_at (table_view table.now) }
+{
+    match value_at(table, KeyName::JournalKeys.text()) {
+        Some(value) => value.as_bool(),
+        None => Some(true),
     }
 }
 

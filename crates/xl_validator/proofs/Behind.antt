@@ -12,7 +12,7 @@ use Rattle.xl_store.specs.declared.entry.Entry.{Entry}
 use Rattle.xl_store.specs.Entries.{Leads}
 use Rattle.xl_store.specs.Pages.{entries_if}
 use Rattle.xl_heartbeat.specs.Outputs.{Output}
-use Rattle.xl_audit.specs.Journals.{journal_text, start_of}
+use Rattle.xl_audit.specs.Journals.{start_of}
 use Rattle.xl_audit.specs.Rereading.{SaysYes}
 use Rattle.xl_core.specs.declared.settings.Settings.{Settings as CoreSettings}
 use Rattle.xl_settings.specs.declared.settings.Settings.{Settings}
@@ -20,7 +20,7 @@ use Rattle.xl_workers.specs.Linking.{HubSeen}
 use Rattle.xl_validator.specs.ListsSet.{AreEverKeyed}
 use Rattle.xl_validator.specs.Openings.{Task, core_settings, opening_core, rolls_of, task_of}
 use Rattle.xl_validator.specs.Preparing.{Leaves}
-use Rattle.xl_validator.specs.Recordings.{IsWritten, is_over, is_written, text_of}
+use Rattle.xl_validator.specs.Recordings.{IsWritten, is_over, is_written, text_by, text_of}
 use Rattle.xl_validator.specs.Validators.{Between, Goes, HasRecorded, HasRun, IsOfNode, IsUnopened, Loads}
 use Rattle.xl_validator.proofs.SettingLists.{are_set}
 use Rattle.xl_validator.proofs.Ending.{by_time, by_full, by_beats}
@@ -147,7 +147,7 @@ module _ {K O : Type 0}
     -- the journal is written
     goes_behind : (history : List Entry) → ran ≡ Some history → is_written s.journal ended ≡ true → journal ≡ None
         → IsWritten (text_of s moment kept history) ended end reported after
-        → (is_over end ≡ true → SaysYes (text_of s moment kept history) (length history)) → Ends
+        → (s.journal_keys ≡ true → is_over end ≡ true → SaysYes (text_of s moment kept history) (length history)) → Ends
     goes_behind history handed asked none text audited =
         let over : is_over ended ≡ true = over_of s.journal ended asked in
         let run = has_run history (at_some GoesSo ran history handed leaves.goes) in
@@ -180,14 +180,14 @@ module _ {K O : Type 0}
         → (is_written asked ended ≡ true → (history : List Entry) → ran ≡ Some history
         → IsWritten (text_of s moment kept history) ended end reported after)
         → (is_written asked ended ≡ true → is_over end ≡ true → (history : List Entry) → ran ≡ Some history
-        → SaysYes (text_of s moment kept history) (length history))
+        → s.journal_keys ≡ true → SaysYes (text_of s moment kept history) (length history))
         → Ends
     ends asked is left silent none some written audited =
         elim (is_written asked ended) as (λ v. is_written asked ended ≡ v → Ends) [
           | true ↦ λ yes.
               let handed = some_of ran (some yes) in
               goes_behind handed.0 handed.1 (ap (λ (b : Bool). is_written b ended) (sym is) ∙ yes) (none yes) (written yes handed.0 handed.1)
-              (λ over. audited yes over handed.0 handed.1)
+              (λ with_keys over. audited yes over handed.0 handed.1 with_keys)
           | false ↦ λ not_so.
               let same = left not_so in
               stays (ap (λ (b : Bool). is_written b ended) (sym is) ∙ not_so) same.0 same.1 same.2 (silent same.2)
@@ -222,18 +222,21 @@ module _ {R : Type 0} (settings_in : R → CoreSettings) (now_in kept_in : R →
       subst (λ (c : Core). IfSome ran (λ history. IsLegal Leads c history)) same legal
 
   -- and what holds of its text there holds of the text of the run
-  pub text_there : (P : List ℕ → List Entry → Type 0) (recording : Option R) (ran : Option (List Entry)) (ended : Status)
+  pub text_there : (keys_in : R → Bool) (P : Bool → List ℕ → List Entry → Type 0) (recording : Option R) (ran : Option (List Entry)) (ended : Status)
       → is_written (is_some recording) ended ≡ true
       → IfSome recording (λ r. settings_in r ≡ core_settings s) → IfSome recording (λ r. now_in r ≡ moment) → IfSome recording (λ r. kept_in r ≡ kept)
-      → IfSome recording (λ r. IfSome ran (λ history. P (journal_text (settings_in r) (now_in r) (kept_in r) history) history))
-      → (history : List Entry) → ran ≡ Some history → P (text_of s moment kept history) history
-  text_there P None ran ended asked settings now number all history handed = absurd cc
-  text_there P (Some r) ran ended asked settings now number all history handed =
-      let same : journal_text (settings_in r) (now_in r) (kept_in r) history ≡ text_of s moment kept history =
-      ap (λ (c : CoreSettings). journal_text c (now_in r) (kept_in r) history) settings ∙ ap (λ (n : ℕ). journal_text (core_settings s) n (kept_in r) history) now
-      ∙ ap (λ (n : ℕ). journal_text (core_settings s) moment n history) number in
-      subst (λ (text : List ℕ). P text history) same
-      (at_some (λ h. P (journal_text (settings_in r) (now_in r) (kept_in r) h) h) ran history handed all)
+      → IfSome recording (λ r. keys_in r ≡ s.journal_keys)
+      → IfSome recording (λ r. IfSome ran (λ history. P (keys_in r) (text_by (keys_in r) (settings_in r) (now_in r) (kept_in r) history) history))
+      → (history : List Entry) → ran ≡ Some history → P s.journal_keys (text_of s moment kept history) history
+  text_there keys_in P None ran ended asked settings now number keys all history handed = absurd cc
+  text_there keys_in P (Some r) ran ended asked settings now number keys all history handed =
+      let same : text_by (keys_in r) (settings_in r) (now_in r) (kept_in r) history ≡ text_by (keys_in r) (core_settings s) moment kept history =
+      ap (λ (c : CoreSettings). text_by (keys_in r) c (now_in r) (kept_in r) history) settings
+      ∙ ap (λ (n : ℕ). text_by (keys_in r) (core_settings s) n (kept_in r) history) now
+      ∙ ap (λ (n : ℕ). text_by (keys_in r) (core_settings s) moment n history) number in
+      subst (λ (b : Bool). P b (text_by b (core_settings s) moment kept history) history) keys
+      (subst (λ (text : List ℕ). P (keys_in r) text history) same
+      (at_some (λ h. P (keys_in r) (text_by (keys_in r) (settings_in r) (now_in r) (kept_in r) h) h) ran history handed all))
 
 -- the histories of runs are legal
 pub legal_of : {K : Type 0} (held_by : K → Option Held) (saves_of : K → Option (List ℕ)) (faults_of : K → ℕ) (save_gives : K → ℕ → Bool → K → Type 0)

@@ -15,6 +15,7 @@ use Rattle.xl_settings.specs.Peers.{PeerSetting, are_peers, is_peer, setting_of}
 use Rattle.xl_base.specs.declared.ids.TxId.{TxId}
 use Rattle.xl_heartbeat.specs.declared.pulse.Pulse.{Pulse}
 use Rattle.xl_heartbeat.specs.declared.rolls_text.RollsText.{RollsText}
+use Rattle.xl_heartbeat.specs.declared.timing.Timing.{Timing}
 use Rattle.xl_settings.specs.declared.settings.Settings.{Settings}
 use Rattle.xl_settings.specs.Runnable.{AreRunnable}
 use Rattle.xl_core.specs.Core.{Core}
@@ -23,7 +24,7 @@ use Rattle.xl_workers.specs.declared.plan.Plan.{Plan}
 use Rattle.xl_links.specs.Ways.{Target}
 use Rattle.xl_workers.specs.Linking.{contact_of, target_of}
 use Rattle.xl_validator.specs.Contacts.{IsNumber}
-use Rattle.xl_validator.specs.Openings.{Task, number_of, rolls_of, target_at, task_of, pulse_of}
+use Rattle.xl_validator.specs.Openings.{Task, number_of, rolls_of, target_at, task_of, timing_of, pulse_of}
 use Rattle.xl_validator.specs.Preparing.{IsPlan, IsReady, task_in}
 use Rattle.xl_validator.proofs.Sharing.{HasKey}
 use Rattle.xl_settings.proofs.Fewness.{distinct}
@@ -86,15 +87,15 @@ few_contacts contacts once all =
     let same : length (map contact_of contacts) ≡ length contacts = length-map _ _ in omega (arith, few, same)
 
 -- the list that the core is opened with is copied for the heartbeat
-pub same_pulse : (s : Settings) (moment : ℕ) (list : TrustedList) → list ≡ s.list → (rolls : Option RollsText)
-    → rolls ≡ rolls_of s
+pub same_pulse : (s : Settings) (moment : ℕ) (timing : Timing) → timing ≡ timing_of s moment → (list : TrustedList)
+    → list ≡ s.list → (rolls : Option RollsText) → rolls ≡ rolls_of s
     → (let p : Pulse = record {
-      timing = record { opened = moment; every = s.heartbeat_ms; run = s.run_ms };
+      timing = timing;
       publishing = s.publishing;
       list = list;
       rolls = rolls;
     } in p) ≡ pulse_of s moment
-same_pulse s moment list same rolls looked = rw same (rw looked refl)
+same_pulse s moment timing timed list same rolls looked = rw timed (rw same (rw looked refl))
 
 abbrev task : ℕ → List TxId → List Target → Option (List ℕ) → Pulse → Task
 task turns submits targets door pulse =

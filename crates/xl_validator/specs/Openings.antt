@@ -10,6 +10,7 @@ use Rattle.xl_core.specs.Node.{opened_node}
 use Rattle.xl_lists.specs.Lists.{all_numbers}
 use Rattle.xl_heartbeat.specs.declared.pulse.Pulse.{Pulse}
 use Rattle.xl_heartbeat.specs.declared.rolls_text.RollsText.{RollsText}
+use Rattle.xl_heartbeat.specs.declared.timing.Timing.{Timing}
 use Rattle.xl_settings.specs.declared.settings.Settings.{Settings}
 use Rattle.xl_settings.specs.Peers.{PeerSetting, is_peer}
 
@@ -45,10 +46,14 @@ rolls_at me peers path = record { path = path; members = nameable me peers }
 abbrev pub rolls_of : Settings → Option RollsText
 rolls_of s = option_map (rolls_at s.me s.peers) s.rolls
 
+-- when its beats come
+abbrev pub timing_of : Settings → ℕ → Timing
+timing_of s moment = record { opened = moment; every = s.heartbeat_ms; run = s.run_ms }
+
 -- what its heartbeat goes by: the list that was last set is at first the one that the core is opened with
 abbrev pub pulse_of : Settings → ℕ → Pulse
 pulse_of s moment = record {
-  timing = record { opened = moment; every = s.heartbeat_ms; run = s.run_ms };
+  timing = timing_of s moment;
   publishing = s.publishing;
   list = s.list;
   rolls = rolls_of s;

@@ -5,7 +5,8 @@ use Rattle.xl_base.specs.declared.status.Status.TheVariants as status
 use Rattle.xl_io.specs.Sinks.{GrewByFront}
 use Rattle.xl_heartbeat.specs.Outputs.{Output, Adds, AddsLess}
 use Rattle.xl_store.specs.declared.entry.Entry.{Entry}
-use Rattle.xl_audit.specs.Journals.{journal_text}
+use Rattle.xl_core.specs.declared.settings.Settings.{Settings as CoreSettings}
+use Rattle.xl_audit.specs.Journals.{journal_text, untagged_journal_text}
 use Rattle.xl_settings.specs.declared.settings.Settings.{Settings}
 use Rattle.xl_validator.specs.Openings.{core_settings}
 
@@ -19,9 +20,14 @@ is_over other = false
 abbrev pub is_written : Bool → Status → Bool
 is_written asked ended = asked && is_over ended
 
+-- the text of a history, with keys and tags or without
+abbrev pub text_by : Bool → CoreSettings → ℕ → ℕ → List Entry → List ℕ
+text_by true settings moment kept history = journal_text settings moment kept history
+text_by false settings moment kept history = untagged_journal_text settings moment kept history
+
 -- the text of a history of the core that settings open at a moment, with the number that was kept
 abbrev pub text_of : Settings → ℕ → ℕ → List Entry → List ℕ
-text_of s moment kept history = journal_text (core_settings s) moment kept history
+text_of s moment kept history = text_by s.journal_keys (core_settings s) moment kept history
 
 -- a front of the text was written
 pub record AddsFront (text : List ℕ) (old new : Output) : Type 0 where

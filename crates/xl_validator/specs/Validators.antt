@@ -129,9 +129,9 @@ module _ {K : Type 0}
     pub done : ended ≡ status.Done → EndsByTime s moment (calls_of (opening_core s moment run.kept) history)
     pub full : ended ≡ status.StoreFull → EndsFull s moment (calls_of (opening_core s moment run.kept) history)
     pub beats : HasBeats s moment (calls_of (opening_core s moment run.kept) history)
-    -- and if all of that text was written, `audit` says yes to it, with the number of its entries, which may be as many
-    -- as it takes
-    pub yes : is_over end ≡ true → SaysYes (text_of s moment run.kept history) (length history)
+    -- and if all of that text was written, and with keys, `audit` says yes to it, with the number of its entries, which
+    -- may be as many as it takes
+    pub yes : s.journal_keys ≡ true → is_over end ≡ true → SaysYes (text_of s moment run.kept history) (length history)
 
   -- by the settings that the input held
   abbrev pub IsRecordedRun : Option (List ℕ) → ℕ → (ℕ → Bool) → Offers → Between → K → K → Status → Type 0

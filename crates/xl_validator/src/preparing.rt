@@ -3,7 +3,7 @@ ghost use Rattle.std.specs.Prelude.{◌≡◌, ◌≤◌, IfOk, option_map};
 ghost use Rattle.xl_base.specs.Moments.{greatest_millis};
 ghost use Rattle.xl_settings.specs.Runnable.{AreRunnable};
 ghost use Rattle.xl_validator.specs.ListsSet.{AreEverKeyed};
-ghost use Rattle.xl_validator.specs.Openings.{opening_core, rolls_at, rolls_of, task_of};
+ghost use Rattle.xl_validator.specs.Openings.{opening_core, rolls_at, rolls_of, task_of, timing_of};
 ghost use Rattle.xl_validator.specs.Preparing.{IsPlan, IsReady, task_in};
 
 use crate::contacts::contacts_of;
@@ -45,29 +45,27 @@ pub(crate) fn prepare(alloc: Global, judged: Judged, kept: Seq) -> Result<Prepar
         AreEverKeyed (rolls_of judged.settings) judged.settings.publishing prepared.core) }
 {
     let Judged { settings, now } = judged;
+    let timing = timing_of(&settings, now);
     let Settings {
         me,
         list,
         validating,
         limit,
         turns,
-        heartbeat_ms,
-        run_ms,
+        heartbeat_ms: _,
+        run_ms: _,
         submit,
         peers,
         speak,
         publishing,
         journal,
+        journal_keys: _,
         status: _,
         rolls,
         submit_at,
     } = settings;
     let pulse = Pulse {
-        timing: Timing {
-            opened: now,
-            every: heartbeat_ms as u32,
-            run: run_ms,
-        },
+        timing,
         publishing,
         list: list.copy(),
         rolls: rolls_text_of(me, &peers, rolls),
@@ -84,6 +82,18 @@ pub(crate) fn prepare(alloc: Global, judged: Judged, kept: Seq) -> Result<Prepar
     match Core::open(alloc, settings, now, kept) {
         Ok(core) => Ok(Prepared { core, plan }),
         Err(_) => Err(OutOfMemory),
+    }
+}
+
+/// When the beats of its run come.
+fn timing_of(settings: &Settings, opened: Millis) -> Timing
+    requires { AreRunnable settings.now }
+    ensures { result ≡ timing_of settings.now opened }
+{
+    Timing {
+        opened,
+        every: settings.heartbeat_ms as u32,
+        run: settings.run_ms,
     }
 }
 

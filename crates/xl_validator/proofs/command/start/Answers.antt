@@ -1,5 +1,5 @@
 -- the core opens at the number that the keeper gave, and its run's history is legal, so it can be written as it was
-use Rattle.std.proofs.Common.{◌≡◌, None, refl, ap, sym, subst, inl, ◌∙◌, length}
+use Rattle.std.proofs.Common.{◌≡◌, true, None, refl, ap, sym, subst, inl, ◌∙◌, length}
 use Rattle.std.specs.Prelude.{is_some}
 use Rattle.xl_heartbeat.specs.Outputs.{Output, output}
 use Rattle.xl_audit.specs.Rereading.{SaysYes}
@@ -73,7 +73,7 @@ returns-in-Ok-prepare g c =
     left.ensures.status left.ensures.keeper left.ensures.journal
     ran.legal ran.run ran.keeper ran.limit ran.spared ran.nothing in
     let there = text_there (λ (r : Recording). r.settings) (λ (r : Recording). r.now) (λ (r : Recording). r.kept)
-    c.args.judged.settings c.args.judged.now c.in-Ok.kept in
+    c.args.judged.settings c.args.judged.now c.in-Ok.kept (λ (r : Recording). r.with_keys) in
     let all =
     ends g.K.Keeper.held g.K.Keeper.saves g.K.Keeper.faults g.K.Keeper.load_gives g.K.Keeper.save_gives
     c.args.judged.settings c.args.judged.now c.in-Ok.kept
@@ -94,11 +94,11 @@ returns-in-Ok-prepare g c =
     leaves done.ensures.keeper
     (is_some made.result) made.ensures.asked
     done.ensures.left (λ same. ap shown same) done.ensures.none done.ensures.some
-    (λ yes. there (λ text _. IsWritten text left.result.0.status done.result.status (shown new) (shown done.new.sink))
-    made.result left.result.0.journal left.result.0.status yes made.ensures.settings made.ensures.now made.ensures.kept
+    (λ yes. there (λ _ text _. IsWritten text left.result.0.status done.result.status (shown new) (shown done.new.sink))
+    made.result left.result.0.journal left.result.0.status yes made.ensures.settings made.ensures.now made.ensures.kept made.ensures.with_keys
     (done.ensures.written yes))
-    (λ yes over. there (λ text history. SaysYes text (length history))
-    made.result left.result.0.journal left.result.0.status yes made.ensures.settings made.ensures.now made.ensures.kept
+    (λ yes over. there (λ keys text history. keys ≡ true → SaysYes text (length history))
+    made.result left.result.0.journal left.result.0.status yes made.ensures.settings made.ensures.now made.ensures.kept made.ensures.with_keys
     (done.ensures.yes yes over)) in
     record {
       ran = all.runs;

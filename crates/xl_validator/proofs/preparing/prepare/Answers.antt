@@ -17,7 +17,7 @@ open-requires-clause-keyed c =
 pub returns-in-Ok-clause-task : goal.returns-in-Ok-clause-task
 returns-in-Ok-clause-task c =
     the_task c.args.judged.settings _ c.in-Ok.core c.in_ok-plan.plan c.in_ok-plan.ensures.plan c.args.judged.now
-    (same_pulse c.args.judged.settings c.args.judged.now c.copy.result c.copy.ensures
+    (same_pulse c.args.judged.settings c.args.judged.now c.timing_of-timing.result c.timing_of-timing.ensures c.copy.result c.copy.ensures
     c.rolls_text_of.result c.rolls_text_of.ensures)
 
 pub returns-in-Ok-clause-ready : goal.returns-in-Ok-clause-ready
