@@ -200,7 +200,7 @@ REPLAY_END, SHOW_END = SHORT + '*' + FORGED + VERDICT, lines(SHOW_END_FORMS)
 TOLD = '(?=(?:.*\n)*?event )(?:%s|%s)*' % (OUTCOME, lines(TELL_FORMS))
 REPORT, SETTINGS = lines(REPORT_FORMS), 'settings (?:.|\n)*\n'
 ENTRIES = 'frame|timer|submit|issue|greet|drain|reports|stop|stopped|relist'
-JOURNAL_LINE = '(?:(?:xl-journal 1|settings|key|%s)(?: [^\n]*)?\n)' % ENTRIES
+JOURNAL_LINE = '(?:(?:xl-journal 1|settings|key|peers|%s)(?: [^\n]*)?\n)' % ENTRIES
 JOURNAL = '(?:xl-journal 1\n%s*)?' % JOURNAL_LINE
 MERGED, AUDITED = lines(MERGE_FORMS), lines(AUDIT_FORMS)
 JUDGED, MIXED, BLAMED_FORK = lines(JUDGED_FORMS), lines(KEYS_FORMS), lines(BLAMED_FORK_FORMS)
