@@ -11,7 +11,8 @@ ghost use Rattle.xl_tell.specs.Nodes.{node_of};
 ghost use Rattle.xl_world.specs.Sending.{body_said, said_to, sent_as};
 ghost use Rattle.xl_world.specs.World.{core_in};
 
-use crate::nodes::{frame_at, node_asked, node_of as node_number};
+use crate::delivery::{frame_of, is_set, saying};
+use crate::nodes::{node_asked, node_of as node_number};
 use std::alloc::Global;
 use xl_base::{Millis, NodeNo, OutOfMemory};
 use xl_core::Node;
@@ -20,11 +21,8 @@ use xl_noted::{
 };
 use xl_sched::{Ask, Event, What};
 use xl_trie::Trie;
-use xl_wire::{LONGEST_FRAME, Parted, split};
+use xl_wire::LONGEST_FRAME;
 use xl_world::{Said, Sent, World};
-
-/// The kind of a frame that tells a set.
-const TX_SET: u8 = 4;
 
 /// What is noted before a part of an event.
 #[derive(Drop)]
@@ -91,45 +89,6 @@ impl Before {
             Before::Time { number, .. } => Some(*number),
         }
     }
-}
-
-/// The frame that is delivered, if that is what happens.
-fn frame_of<'a>(world: &'a World, what: &What) -> Option<Sent<'a>>
-    ensures { IfSome result (λ frame. Delivers world.now what.now frame) }
-{
-    match what {
-        What::Deliver { place } => frame_at(world, *place),
-        _ => None,
-    }
-}
-
-/// The frame between these two in which this is said says it.
-fn saying(from: NodeNo, to: NodeNo, said: &Said)
-    ensures { Says (said_to from to (body_said said.now)) (speech_of (body_said said.now)) }
-{
-    // What is said is a body, which fits into a frame.
-    let _body = said.body();
-}
-
-/// Whether these are the bytes that are kept of a set of the frame's sender.
-fn is_kept_set(frame: &Sent<'_>, kept: &[u8]) -> bool
-    requires { frame.now ≡ sent_as frame.now.from frame.now.to kept.now }
-    ensures { IsTrue result → SaysSet frame.now }
-{
-    match split(kept) {
-        Parted::Whole(raw) if raw.kind == TX_SET => {
-            raw.from == frame.from().get() && raw.length == kept.len()
-        }
-        _ => false,
-    }
-}
-
-/// Whether it is a set of its sender, which alone is kept as bytes.
-fn is_set(frame: &Sent<'_>, room: &mut [u8; LONGEST_FRAME]) -> bool
-    ensures { IsTrue result → SaysSet frame.now }
-{
-    let length = frame.put(room);
-    is_kept_set(frame, &room[..length])
 }
 
 /// Whether the member is on the node's list, and the moment in the second of its time.

@@ -8,6 +8,7 @@
 
 mod before;
 mod command;
+mod delivery;
 mod events;
 mod laws;
 mod narrator;

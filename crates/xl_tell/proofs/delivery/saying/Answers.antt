@@ -8,7 +8,7 @@ use Rattle.xl_core.specs.Hearing.{said_in, speech_of}
 use Rattle.xl_core.specs.Sending.{sealed_bytes}
 use Rattle.xl_world.proofs.Carrying.{spelled_between}
 use Rattle.xl_tell.proofs.Heard.{sealed_says}
-use Rattle.xl_tell.proofs.before.saying.Goals as goal
+use Rattle.xl_tell.proofs.delivery.saying.Goals as goal
 
 pub returns : goal.returns
 returns c =

@@ -6,7 +6,7 @@ use Rattle.xl_sched.specs.declared.event.What.TheVariants as what
 use Rattle.xl_world.specs.Schedule.{delivery_of, frame_at}
 use Rattle.xl_world.specs.Sending.{Sent}
 use Rattle.xl_tell.specs.Before.{Delivers}
-use Rattle.xl_tell.proofs.before.frame_of.Goals as goal
+use Rattle.xl_tell.proofs.delivery.frame_of.Goals as goal
 
 pub returns-in-Deliver : goal.returns-in-Deliver
 returns-in-Deliver c =

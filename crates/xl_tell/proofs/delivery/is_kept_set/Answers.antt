@@ -4,7 +4,7 @@ use Rattle.std.proofs.lemmas.Bool.{eqb-true}
 use Rattle.xl_wire.specs.Heads.{parts}
 use Rattle.xl_wire.specs.Raws.{raw_frame}
 use Rattle.xl_tell.proofs.Heard.{says_set}
-use Rattle.xl_tell.proofs.before.is_kept_set.Goals as goal
+use Rattle.xl_tell.proofs.delivery.is_kept_set.Goals as goal
 
 pub returns-then-raw-get : goal.returns-then-raw-get
 returns-then-raw-get c =
