@@ -4,7 +4,7 @@ use Rattle.std.specs.Prelude.{IfOk, IfErr, IsErrOf}
 use Rattle.std.specs.Io.KnownBytes.{append_known}
 use Rattle.xl_base.specs.Faults.{Rose}
 use Rattle.xl_base.specs.declared.status.Status.{Status}
-use Rattle.xl_base.specs.declared.status.Status.TheVariants.{Done, Fork, InputRefused, ReadFault, WriteFault, OutOfMemory, KeepFault, NetFault}
+use Rattle.xl_base.specs.declared.status.Status.TheVariants.{Done, Fork, WordsRefused, InputRefused, ReadFault, WriteFault, OutOfMemory, KeepFault, NetFault, StoreFull}
 use Rattle.xl_io.specs.Sinks.{GrewByFront, GrewByLess}
 use Rattle.xl_lines.specs.declared.fault.Fault.{Fault}
 use Rattle.xl_lines.specs.declared.fault.Fault.TheVariants.{Read, Write, Memory}
@@ -18,7 +18,7 @@ use Rattle.xl_replay.specs.Replays.{report_of}
 use Rattle.xl_replay.proofs.Headline.{as_written}
 use Rattle.xl_show.specs.Soon.{soon_from, soon_in}
 use Rattle.xl_words.specs.declared.command.Telling.{Telling}
-use Rattle.xl_words.specs.declared.command.Telling.TheVariants.{Replay}
+use Rattle.xl_words.specs.declared.command.Telling.TheVariants.{Replay, Events, Show, Lists, Merge, Audit, Blame, Flags, Negative, Gen, Help, Version}
 use Rattle.xl_texts.specs.Promises.{Reads, on, to_what_is_found, nothing, Showing, always, if_some, if_read, IsAtItsEnd, LacksSome, LeavesOut, ShowsEnd}
 use Rattle.xl_texts.specs.Streams.{Streams}
 use Rattle.xl_texts.specs.Keeps.{Keeps}
@@ -38,30 +38,56 @@ module _ (left held held' : Option (List ℕ)) (told : List ℕ → Told) where
 
   done_after : (r : Result Verdict Fault) → Whole r → status_after r ≡ Done → IfSome left (λ bytes. TellsAll held held' Good (told bytes))
   done_after (Ok Good) whole is = whole
-  done_after other whole is = cc
+  done_after (Ok Found) whole is = cc
+  done_after (Ok Refused) whole is = cc
+  done_after (Err Read) whole is = cc
+  done_after (Err Write) whole is = cc
+  done_after (Err Memory) whole is = cc
 
   fork_after : (r : Result Verdict Fault) → Whole r → status_after r ≡ Fork → IfSome left (λ bytes. TellsAll held held' Found (told bytes))
+  fork_after (Ok Good) whole is = cc
   fork_after (Ok Found) whole is = whole
-  fork_after other whole is = cc
+  fork_after (Ok Refused) whole is = cc
+  fork_after (Err Read) whole is = cc
+  fork_after (Err Write) whole is = cc
+  fork_after (Err Memory) whole is = cc
 
   refused_after : (r : Result Verdict Fault) → Whole r → status_after r ≡ InputRefused → IfSome left (λ bytes. TellsAll held held' Refused (told bytes))
+  refused_after (Ok Good) whole is = cc
+  refused_after (Ok Found) whole is = cc
   refused_after (Ok Refused) whole is = whole
-  refused_after other whole is = cc
+  refused_after (Err Read) whole is = cc
+  refused_after (Err Write) whole is = cc
+  refused_after (Err Memory) whole is = cc
 
 end_after : (r : Result Verdict Fault) (E : Type 0) → IfOk r (λ verdict. verdict ≢ Refused → E) → (status_after r ≡ Done) ⊎ (status_after r ≡ Fork) → E
 end_after (Ok Good) E end is = end (λ no. cc)
 end_after (Ok Found) E end is = end (λ no. cc)
-end_after other E end (inl is) = absurd cc
-end_after other E end (inr is) = absurd cc
+end_after (Ok Refused) E end (inl is) = absurd cc
+end_after (Ok Refused) E end (inr is) = absurd cc
+end_after (Err Read) E end (inl is) = absurd cc
+end_after (Err Read) E end (inr is) = absurd cc
+end_after (Err Write) E end (inl is) = absurd cc
+end_after (Err Write) E end (inr is) = absurd cc
+end_after (Err Memory) E end (inl is) = absurd cc
+end_after (Err Memory) E end (inr is) = absurd cc
 
 -- a yes was told of the whole input
 yes_after : (r : Result Verdict Fault) (E : Type 0) → IfOk r (λ verdict. verdict ≡ Good → E) → status_after r ≡ Done → E
 yes_after (Ok Good) E end is = end refl
-yes_after other E end is = absurd cc
+yes_after (Ok Found) E end is = absurd cc
+yes_after (Ok Refused) E end is = absurd cc
+yes_after (Err Read) E end is = absurd cc
+yes_after (Err Write) E end is = absurd cc
+yes_after (Err Memory) E end is = absurd cc
 
 read_after : (r : Result Verdict Fault) (P : Type 0) → (IsErrOf r Read → P) → status_after r ≡ ReadFault → P
+read_after (Ok Good) P cause is = absurd cc
+read_after (Ok Found) P cause is = absurd cc
+read_after (Ok Refused) P cause is = absurd cc
 read_after (Err Read) P cause is = cause refl
-read_after other P cause is = absurd cc
+read_after (Err Write) P cause is = absurd cc
+read_after (Err Memory) P cause is = absurd cc
 
 complete_after : (r : Result Verdict Fault) (A B : Type 0) → IfErr r (λ fault. (A → ⊥) → (B → ⊥) → fault ≡ Memory) → (A → ⊥) → (B → ⊥) → IsTold (status_after r) ⊎ (status_after r ≡ OutOfMemory)
 complete_after (Ok Good) A B only a b = inl tt
@@ -73,7 +99,11 @@ complete_after (Err Memory) A B only a b = inr refl
 
 pub known_after : (r : Result Verdict Fault) → IsAnswered (status_after r)
 known_after (Ok Good) = tt
-known_after other = tt
+known_after (Ok Found) = tt
+known_after (Ok Refused) = tt
+known_after (Err Read) = tt
+known_after (Err Write) = tt
+known_after (Err Memory) = tt
 
 abbrev len_known : Option (List ℕ) → ℕ
 len_known None = 0
@@ -169,30 +199,53 @@ pub cause_after : (s : Status) (r : Result Verdict Fault) (A B : Type 0) → s �
 cause_after s r A B is read write = subst (λ (x : Status). HasCause x A B ⊥ ⊥) (sym is) (go r read write)
   where
     go : (r : Result Verdict Fault) → (IsErrOf r Read → A) → (IsErrOf r Write → B) → HasCause (status_after r) A B ⊥ ⊥
+    go (Ok Good) read write = tt
+    go (Ok Found) read write = tt
+    go (Ok Refused) read write = tt
     go (Err Read) read write = read refl
     go (Err Write) read write = write refl
-    go other read write = tt
+    go (Err Memory) read write = tt
 
 pub cause_of : (s : Status) (A B C D : Type 0) → (s ≡ ReadFault → A) → (s ≡ WriteFault → B) → (s ≡ KeepFault → C) → (s ≡ NetFault → D) → HasCause s A B C D
+cause_of Done A B C D read write keep net = tt
+cause_of Fork A B C D read write keep net = tt
+cause_of WordsRefused A B C D read write keep net = tt
+cause_of InputRefused A B C D read write keep net = tt
 cause_of ReadFault A B C D read write keep net = read refl
 cause_of WriteFault A B C D read write keep net = write refl
+cause_of OutOfMemory A B C D read write keep net = tt
 cause_of KeepFault A B C D read write keep net = keep refl
 cause_of NetFault A B C D read write keep net = net refl
-cause_of other A B C D read write keep net = tt
+cause_of StoreFull A B C D read write keep net = tt
 
 -- what no other call can cause has the cause of these two
 pub cause_among : (s : Status) (A B C D : Type 0) → HasCause s A B ⊥ ⊥ → HasCause s A B C D
+cause_among Done A B C D cause = tt
+cause_among Fork A B C D cause = tt
+cause_among WordsRefused A B C D cause = tt
+cause_among InputRefused A B C D cause = tt
 cause_among ReadFault A B C D cause = cause
 cause_among WriteFault A B C D cause = cause
+cause_among OutOfMemory A B C D cause = tt
 cause_among KeepFault A B C D cause = absurd cause
 cause_among NetFault A B C D cause = absurd cause
-cause_among other A B C D cause = tt
+cause_among StoreFull A B C D cause = tt
 
 -- nothing is told before the first byte
 quiet : (telling : Telling) → (promise_by telling).soon [] ≡ silence
 unfolding soon_from soon_in
 quiet Replay = refl
-quiet other = refl
+quiet Events = refl
+quiet Show = refl
+quiet Lists = refl
+quiet Merge = refl
+quiet Audit = refl
+quiet Blame = refl
+quiet Flags = refl
+quiet Negative = refl
+quiet (Gen rounds) = refl
+quiet Help = refl
+quiet Version = refl
 
 -- nothing is written if memory runs out before the command begins
 pub nothing_done : (telling : Telling) (at : Streams) → WritesText telling at at OutOfMemory
