@@ -113,9 +113,7 @@ FLAGS_FORMS = forms(
 )
 AUDIT_FORMS = forms(
     'yes count=#',
-    'yes count=# last=(?:cut)',
-    'yes count=# tags=(?:untagged)',
-    'yes count=# last=(?:cut) tags=(?:untagged)',
+    *(f'yes count=# {how}' for how in ('last=(?:cut)', 'tags=(?:untagged)', 'last=(?:cut) tags=(?:untagged)')),
     'no entry=#',
     'bad line=# code=(?:48) token=#',
 )
