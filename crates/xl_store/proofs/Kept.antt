@@ -1,7 +1,10 @@
 -- What a history leaves of the entries that are kept.
-use Rattle.std.proofs.Common.{◌≡◌, ℕ, ◌+◌, ◌<◌, ◌^◌, Bool, true, false, List, [], ◌∷◌, length, refl, sym, ap, ◌∙◌, subst, arith, append_assoc, append-nil, Option, Some, None}
-use Rattle.std.specs.Prelude.{IfSome, is_some}
+use Rattle.std.proofs.Common.{◌≡◌, ◌≤◌, ℕ, ◌+◌, ◌-◌, ◌<◌, ◌^◌, Bool, true, false, not, cond, List, [], ◌∷◌, ◌++◌, length, take, drop, reverse, get_or, refl, sym, ap, ◌∙◌, subst, arith, append_assoc, append-nil, length-append, Option, Some, None}
 use Rattle.std.specs.Global.{Box}
+use Rattle.std.specs.List.{take_while, prefix_len}
+use Rattle.std.proofs.lemmas.List.{length-reverse, length-take, reverse-append}
+use Rattle.std.proofs.lemmas.List.Sums.{take_while-cons}
+use Rattle.std.proofs.Math.Seq.{take-append_seam, drop-append_seam}
 use Rattle.xl_io.specs.Keepers.{Held}
 use Rattle.xl_core.specs.Core.{Core, core_asks}
 use Rattle.xl_core.specs.Keeping.{IsAsked}
@@ -9,62 +12,113 @@ use Rattle.xl_core.specs.Node.{is_kept}
 use Rattle.xl_turns.specs.Histories.{Runs}
 use Rattle.xl_store.specs.declared.entry.Entry.{Entry}
 use Rattle.xl_store.specs.declared.home.Home.{Home}
+use Rattle.xl_store.specs.declared.retention.Retention.{Retention}
+use Rattle.xl_store.specs.declared.retention.Retention.TheVariants as retention
+use Rattle.xl_store.specs.declared.retention.Kept.{Kept}
+use Rattle.xl_store.specs.declared.retention.Kept.TheVariants as kept
 use Rattle.xl_store.specs.Entries.{save_of, Leads}
-use Rattle.xl_store.specs.Pages.{entries_if, kept_with}
 use Rattle.xl_store.specs.Homes.{IsCounted, Goes, LeadsHome}
+use Rattle.xl_store.specs.Retentions.{how_many, is_something, keeps_any, kept_of, kept_with, left_in, left_of, handed_on, passed_by, passed_on, passed_with, since_reports, takes_reports}
 
-kept_none : (kept : Option (List Entry)) → kept ≡ kept_with kept []
-kept_none None = refl
-kept_none (Some es) = ap (λ (l : List Entry). Some l) (sym (append-nil es))
+-- an entry that isn't kept over a taking of reports
+abbrev passes : Entry → Bool
+passes e = not (takes_reports e.event)
 
-kept_more : (kept : Option (List Entry)) (e : Entry) (es : List Entry)
-    → kept_with (kept_with kept (e ∷ [])) es ≡ kept_with kept (e ∷ es)
-kept_more None e es = refl
-kept_more (Some earlier) e es = ap (λ (l : List Entry). Some l) (append_assoc earlier (e ∷ []) es)
+-- the entries since reports were taken, with one more
+since_more : (es : List Entry) (e : Entry)
+    → since_reports (es ++ e ∷ []) ≡ cond (takes_reports e.event) [] (since_reports es ++ e ∷ [])
+since_more es e =
+    ap (λ (l : List Entry). reverse (take_while passes l)) (reverse-append es (e ∷ []))
+    ∙ ap (λ (l : List Entry). reverse l) (take_while-cons passes e (reverse es))
+    ∙ by (takes_reports e.event)
+  where
+    by : (b : Bool) → reverse (cond (not b) (e ∷ take_while passes (reverse es)) [])
+        ≡ cond b [] (reverse (take_while passes (reverse es)) ++ e ∷ [])
+    by true = refl
+    by false = reverse-append (e ∷ []) (take_while passes (reverse es))
 
--- if nothing had happened yet, what is kept is the history or nothing
-from_first : (keeps : Bool) (es : List Entry) → kept_with (entries_if keeps []) es ≡ entries_if keeps es
-from_first false es = refl
-from_first true es = refl
+since_fewer : (es : List Entry) → length (since_reports es) ≤ length es
+since_fewer es =
+    omega (
+      arith,
+      length-reverse (take_while passes (reverse es)),
+      length-take (prefix_len passes (reverse es)) (reverse es),
+      length-reverse es,
+    )
 
-some_if : (keeps : Bool) (es : List Entry) → is_some (entries_if keeps es) ≡ keeps
-some_if false es = refl
-some_if true es = refl
+-- what is kept of a history, with one entry more
+kept_more : (k : Retention) (es : List Entry) (e : Entry)
+    → kept_with (kept_of k es) (takes_reports e.event) (e ∷ []) ≡ kept_of k (es ++ e ∷ [])
+kept_more retention.Nothing es e = refl
+kept_more retention.Whole es e = refl
+kept_more retention.Passing es e = ap kept.Passing (sym (since_more es e))
 
-few : (keeps : Bool) (es page : List Entry) → length es + length page < 2 ^ 63
-    → IfSome (entries_if keeps es) (λ (kept : List Entry). length kept + length page < 2 ^ 63)
-few false es page room = tt
-few true es page room = room
+some_if : (k : Retention) (es : List Entry) → is_something (kept_of k es) ≡ keeps_any k
+some_if retention.Nothing es = refl
+some_if retention.Whole es = refl
+some_if retention.Passing es = refl
+
+few : (k : Retention) (es : List Entry) → how_many (kept_of k es) ≤ length es
+few retention.Nothing es = omega arith
+few retention.Whole es = omega arith
+few retention.Passing es = since_fewer es
+
+pub only_one : (a b : Entry) → a ∷ [] ≡ b ∷ [] → a ≡ b
+only_one a b same = ap (λ (l : List Entry). get_or l 0 a) same
 
 -- whether the page has a node, and the room for it
-pub node_if : (keeps node : Bool) (kept : Option (List Entry)) (es : List Entry) → kept ≡ entries_if keeps es
-    → node ≡ keeps → node ≡ is_some kept
-node_if keeps node kept es is same = same ∙ sym (ap (λ (k : Option (List Entry)). is_some k) is ∙ some_if keeps es)
+pub node_if : (k : Retention) (node : Bool) (kept : Kept) (es : List Entry) → kept ≡ kept_of k es
+    → node ≡ keeps_any k → node ≡ is_something kept
+node_if k node kept es is same = same ∙ sym (ap is_something is ∙ some_if k es)
 
-pub room_if : (keeps : Bool) (kept : Option (List Entry)) (es page : List Entry) (e : Entry) → kept ≡ entries_if keeps es
-    → page ≡ e ∷ [] → length es < 2 ^ 62
-    → IfSome kept (λ (kept : List Entry). length kept + length page < 2 ^ 63)
-room_if keeps kept es page e is one below =
-    let long : length page ≡ 1 = ap (length {A = Entry}) one in
-    subst (λ (k : Option (List Entry)). IfSome k (λ (kept : List Entry). length kept + length page < 2 ^ 63)) (sym is)
-    (few keeps es page (omega (arith, long, below)))
+pub room_if : (k : Retention) (kept : Kept) (es page : List Entry) (e : Entry) → kept ≡ kept_of k es
+    → page ≡ e ∷ [] → length es < 2 ^ 62 → how_many kept + length page < 2 ^ 63
+room_if k kept es page e is one below =
+    omega (arith, ap (length {A = Entry}) one, ap how_many is, few k es, below)
+
+pub left_is : (k : Retention) (es : List Entry) → left_in (kept_of k es) ≡ left_of k es
+left_is retention.Nothing es = refl
+left_is retention.Whole es = refl
+left_is retention.Passing es = refl
+
+-- what an entry hands on, of what is kept and of the history
+pub passed_is : (k : Retention) (es : List Entry) (e : Entry)
+    → passed_with (kept_of k es) (takes_reports e.event) (e ∷ []) ≡ passed_by k es e
+passed_is retention.Nothing es e = refl
+passed_is retention.Whole es e = refl
+passed_is retention.Passing es e = refl
+
+-- an entry by which reports are taken hands on what the history says of its last
+pub handed_last : (k : Retention) (earlier seen : List Entry) (e : Entry) → takes_reports e.event ≡ true
+    → seen ≡ earlier ++ e ∷ [] → passed_by k earlier e ≡ handed_on k seen
+handed_last retention.Nothing earlier seen e takes is = refl
+handed_last retention.Whole earlier seen e takes is = refl
+handed_last retention.Passing earlier seen e takes is =
+    let long : length seen - 1 ≡ length earlier =
+    omega (arith, ap (length {A = Entry}) is, length-append earlier (e ∷ [])) in
+    let front : take (length seen - 1) seen ≡ earlier =
+    (λ i. take (long i) (is i)) ∙ take-append_seam earlier (e ∷ []) in
+    let back : drop (length seen - 1) seen ≡ e ∷ [] =
+    (λ i. drop (long i) (is i)) ∙ drop-append_seam earlier (e ∷ []) in
+    ap (λ (b : Bool). passed_on b (since_reports earlier ++ e ∷ [])) takes
+    ∙ sym (λ i. Some (since_reports (front i) ++ back i))
 
 module _ {B K : Type 0}
     (held_by : K → Option Held) (saves_of : K → Option (List ℕ)) (faults_of : K → ℕ)
     (gives : K → ℕ → Bool → K → Type 0) where
-  kept_run : (a b : Box (Home B K)) (es : List Entry) → Runs (LeadsHome held_by saves_of faults_of gives) a es b
-      → b.value.kept ≡ kept_with a.value.kept es
-  kept_run a b [] r = ap (λ (x : Box (Home B K)). x.value.kept) (sym r) ∙ kept_none a.value.kept
-  kept_run a b (e ∷ es) r =
-      kept_run r.0 b es r.2
-      ∙ ap (λ (k : Option (List Entry)). kept_with k es) r.1.1
-      ∙ kept_more a.value.kept e es
+  kept_run : (k : Retention) (a b : Box (Home B K)) (done es : List Entry) → a.value.kept ≡ kept_of k done
+      → Runs (LeadsHome held_by saves_of faults_of gives) a es b → b.value.kept ≡ kept_of k (done ++ es)
+  kept_run k a b done [] is r =
+      ap (λ (x : Box (Home B K)). x.value.kept) (sym r) ∙ is ∙ ap (kept_of k) (sym (append-nil done))
+  kept_run k a b done (e ∷ es) is r =
+      kept_run k r.0 b (done ++ e ∷ []) es
+      (r.1.1 ∙ ap (λ (x : Kept). kept_with x (takes_reports e.event) (e ∷ [])) is ∙ kept_more k done e) r.2
+      ∙ ap (kept_of k) (append_assoc done (e ∷ []) es)
 
-  -- all of the history is kept, or nothing, as it was opened
-  pub kept_all : (keeps : Bool) (a b : Box (Home B K)) (es : List Entry) → a.value.kept ≡ entries_if keeps []
-      → Runs (LeadsHome held_by saves_of faults_of gives) a es b → b.value.kept ≡ entries_if keeps es
-  kept_all keeps a b es opened r =
-      kept_run a b es r ∙ ap (λ (k : Option (List Entry)). kept_with k es) opened ∙ from_first keeps es
+  -- of the whole history that is kept which the store was opened for
+  pub kept_all : (k : Retention) (a b : Box (Home B K)) (es : List Entry) → a.value.kept ≡ kept_of k []
+      → Runs (LeadsHome held_by saves_of faults_of gives) a es b → b.value.kept ≡ kept_of k es
+  kept_all k a b es opened r = kept_run k a b [] es opened r
 
   -- what an entry does doesn't depend on what is kept
   pub goes_so : (before done after : Home B K) (e : Entry) → Goes held_by saves_of faults_of gives before e done

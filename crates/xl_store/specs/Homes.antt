@@ -13,7 +13,7 @@ use Rattle.xl_store.specs.declared.entry.Saved.{Saved}
 use Rattle.xl_store.specs.declared.entry.Saved.TheVariants as saved
 use Rattle.xl_store.specs.declared.home.Home.{Home}
 use Rattle.xl_store.specs.Entries.{save_of, reply_of, Leads}
-use Rattle.xl_store.specs.Pages.{kept_with}
+use Rattle.xl_store.specs.Retentions.{kept_with, takes_reports}
 
 -- a save that failed was counted, and tells the count
 abbrev pub IsCounted : Option Saved → ℕ → ℕ → Type 0
@@ -34,7 +34,7 @@ module _ {B K : Type 0}
   -- and is kept, if entries are
   abbrev pub LeadsHome : Box (Home B K) → Entry → Box (Home B K) → Type 0
   LeadsHome before e after =
-      Goes before.value e after.value × (after.value.kept ≡ kept_with before.value.kept (e ∷ []))
+      Goes before.value e after.value × (after.value.kept ≡ kept_with before.value.kept (takes_reports e.event) (e ∷ []))
 
   -- the entry leads on, the core's step answers this, and no entry is kept yet
   pub record AnswersHome (before : Home B K) (e : Entry) (answered : Answer) (after : Home B K) : Type 0 where

@@ -1,6 +1,7 @@
 pub mod Entries
 pub mod Outcomes
 pub mod Pages
+pub mod Retentions
 pub mod Homes
 pub mod Calls
 pub mod Stores

@@ -23,7 +23,9 @@ use Rattle.xl_store.specs.declared.store.Store.{Store}
 use Rattle.xl_store.specs.declared.store.StoreEnd.{StoreEnd}
 use Rattle.xl_store.specs.declared.store.StoreEnd.TheVariants.{OutOfMemory, StoreFull}
 use Rattle.xl_store.specs.Entries.{Leads, life_of, page_of}
+use Rattle.xl_store.specs.declared.retention.Retention.{Retention}
 use Rattle.xl_store.specs.declared.page.Page.{Page}
+use Rattle.xl_store.specs.Retentions.{keeps_any}
 use Rattle.xl_store.specs.Pages.{on, has_node}
 use Rattle.xl_store.specs.Homes.{Goes, LeadsHome}
 use Rattle.xl_store.specs.Calls.{Made, IsLast}
@@ -41,9 +43,9 @@ module _ {B K : Type 0} where
   abbrev pub turns_of : Store B K → ℕ
   turns_of store = limit_of store.lock
 
-  -- whether it keeps its entries
-  abbrev pub keeps_of : Store B K → Bool
-  keeps_of store = store.keeps
+  -- which entries it keeps
+  abbrev pub retention_of : Store B K → Retention
+  retention_of store = store.retention
 
   -- the core after all that a pass of the store has seen
   abbrev pub core_seen : Store B K → Pass Entry → Core
@@ -98,7 +100,7 @@ module _ {B K : Type 0}
   pub record Begun (store : Store B K) (old : Pass Entry) (event : CoreEvent) (turn : Turn (Box (Home B K)) Entry)
       (page : Page) : Type 0 where
     pub written : on page ≡ page_of event None
-    pub node : has_node page ≡ keeps_of store
+    pub node : has_node page ≡ keeps_any (retention_of store)
     pub begins : IsPrefix (known old).seen turn.journal
     pub found : Runs (LeadsHome held_by saves_of faults_of gives) (opening store.lock) turn.journal turn.object
     pub below : length turn.journal < turns_of store
@@ -113,4 +115,4 @@ module _ {B K : Type 0}
     pub goes : Goes held_by saves_of faults_of gives found.value entry turn.object.value
     pub kept : turn.object.value.kept ≡ found.value.kept
     pub written : on page ≡ entry ∷ []
-    pub node : has_node page ≡ keeps_of store
+    pub node : has_node page ≡ keeps_any (retention_of store)

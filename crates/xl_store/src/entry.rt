@@ -1,4 +1,5 @@
 ghost use Rattle.std.specs.Prelude.{◌≡◌, IfOk};
+ghost use Rattle.xl_store.specs.Retentions.{takes_reports};
 
 use std::alloc::Global;
 use xl_base::{Bytes, OutOfMemory};
@@ -18,6 +19,15 @@ pub struct Entry {
     pub event: CoreEvent,
     /// How the save was answered that the event asked, if it asked one.
     pub outcome: Option<Saved>,
+}
+
+impl Entry {
+    /// Whether reports are taken by it.
+    pub(crate) fn takes_reports(&self) -> bool
+        ensures { result ≡ takes_reports self.now.event }
+    {
+        matches!(self.event, CoreEvent::Reports { .. })
+    }
 }
 
 /// A copy of these bytes.

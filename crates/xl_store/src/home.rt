@@ -1,16 +1,17 @@
-ghost use Rattle.std.specs.Prelude.{◌≡◌, ◌+◌, ◌<◌, ◌≤◌, ◌^◌, ◌++◌, length, is_some, IfSome};
+ghost use Rattle.std.specs.Prelude.{◌≡◌, ◌+◌, ◌<◌, ◌≤◌, ◌^◌, length};
 ghost use Rattle.xl_base.specs.Moments.{greatest_millis};
 ghost use Rattle.xl_core.specs.declared.event.CoreEvent.TheVariants.{Issue, Timer};
 ghost use Rattle.xl_core.specs.Answers.{Beats};
 ghost use Rattle.xl_core.specs.Replies.{done_answer};
 ghost use Rattle.xl_store.specs.Entries.{entry_of};
 ghost use Rattle.xl_store.specs.Outcomes.{outcome_in, outcome_at};
-ghost use Rattle.xl_store.specs.Pages.{on, has_node, kept_with};
+ghost use Rattle.xl_store.specs.Retentions.{entries_in, how_many, is_something, kept_with, passed_with};
+ghost use Rattle.xl_store.specs.Pages.{on, has_node};
 ghost use Rattle.xl_store.specs.Homes.{AnswersHome};
 
-use crate::entry::Entry;
 use crate::page::Page;
-use std::collections::LinkedList;
+use crate::retention::{Gone, Kept, link, link_or_pass};
+use std::alloc::Global;
 use xl_base::{LedgerId, Millis, Seq};
 use xl_core::{Core, Refusal, TimerAnswer};
 use xl_io::Keeper;
@@ -22,7 +23,7 @@ use xl_ledger::Branch;
 pub struct Home<B: Branch, K> {
     pub core: Core<B>,
     pub keeper: K,
-    pub(crate) kept: Option<LinkedList<Entry>>,
+    pub(crate) kept: Kept,
 }
 
 impl<B: Branch + Drop, K: Keeper> Home<B, K> {
@@ -50,33 +51,26 @@ impl<B: Branch + Drop, K: Keeper> Home<B, K> {
         self.core.issue(now, seq, id, full, &mut self.keeper)
     }
 
-    /// Keeps the page's entry behind the others, or hands it back if entries aren't kept.
-    pub(crate) fn keep(&mut self, page: Page) -> Option<Entry>
-        requires node { has_node page ≡ is_some self.old.kept }
-        requires room { IfSome self.old.kept (λ kept. length kept + length (on page) < 2 ^ 63) }
+    /// Keeps the page's entry behind the others, or hands it back if none is kept. If reports are taken by it, and entries
+    /// are handed on then, they leave.
+    pub(crate) fn keep(&mut self, alloc: Global, page: Page, takes: bool) -> Gone
+        requires node { has_node page ≡ is_something self.old.kept }
+        requires room { how_many self.old.kept + length (on page) < 2 ^ 63 }
         ensures core { self.new.core ≡ self.old.core }
         ensures keeper { self.new.keeper ≡ self.old.keeper }
-        ensures kept { self.new.kept ≡ kept_with self.old.kept (on page) }
+        ensures kept { self.new.kept ≡ kept_with self.old.kept takes (on page) }
+        ensures gone { entries_in result ≡ passed_with self.old.kept takes (on page) }
     {
         match page {
-            Page::Kept(node) => {
-                if let Some(kept) = &mut self.kept {
+            Page::Linked(node) => match &mut self.kept {
+                Kept::Nothing => Gone::Nothing,
+                Kept::Whole(kept) => {
                     link(kept, node);
+                    Gone::Nothing
                 }
-                None
-            }
-            Page::Passing(entry) => Some(entry),
+                Kept::Passing(kept) => link_or_pass(alloc, kept, node, takes),
+            },
+            Page::Bare(entry) => Gone::Entry(entry),
         }
     }
-}
-
-/// Links the node behind the others.
-fn link(kept: &mut LinkedList<Entry>, mut node: LinkedList<Entry>)
-    requires room { length kept.old + length node < 2 ^ 63 }
-    ensures { kept.new ≡ kept.old ++ node }
-{
-    let Ok(()) = kept.append(&mut node) else {
-        unreachable!()
-    };
-    node.destroy_empty();
 }

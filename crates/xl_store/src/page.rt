@@ -14,9 +14,9 @@ use xl_core::CoreEvent;
 #[derive(Drop)]
 pub(crate) enum Page {
     /// It is to be kept, and has its node.
-    Kept(LinkedList<Entry>),
+    Linked(LinkedList<Entry>),
     /// It is gone with its turn.
-    Passing(Entry),
+    Bare(Entry),
 }
 
 impl Page {
@@ -31,11 +31,11 @@ impl Page {
             outcome: None,
         };
         if !keeps {
-            return Ok(Page::Passing(entry));
+            return Ok(Page::Bare(entry));
         }
         let mut node = LinkedList::new(alloc);
         node.push_back(entry)?;
-        Ok(Page::Kept(node))
+        Ok(Page::Linked(node))
     }
 
     /// Notes how the event's save was answered.
@@ -45,8 +45,8 @@ impl Page {
         ensures node { has_node self.new ≡ has_node self.old }
     {
         match self {
-            Page::Kept(node) => note_in(node, outcome),
-            Page::Passing(entry) => entry.outcome = outcome,
+            Page::Linked(node) => note_in(node, outcome),
+            Page::Bare(entry) => entry.outcome = outcome,
         }
     }
 
@@ -56,11 +56,11 @@ impl Page {
         ensures entry { on self.now ≡ result.now ∷ [] }
     {
         match self {
-            Page::Kept(node) => match node.front() {
+            Page::Linked(node) => match node.front() {
                 Some(entry) => entry,
                 None => unreachable!(),
             },
-            Page::Passing(entry) => entry,
+            Page::Bare(entry) => entry,
         }
     }
 }

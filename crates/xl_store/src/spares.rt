@@ -88,6 +88,6 @@ impl Spare {
             event,
             outcome: None,
         };
-        Page::Kept(node)
+        Page::Linked(node)
     }
 }

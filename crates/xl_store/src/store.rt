@@ -1,11 +1,12 @@
 ghost use Rattle.std.specs.Prelude.{◌≡◌, []};
 ghost use Rattle.xl_turns.specs.Passes.{opening};
-ghost use Rattle.xl_store.specs.Pages.{entries_if};
+ghost use Rattle.xl_store.specs.Retentions.{kept_of};
 
 use crate::entry::Entry;
 use crate::history::Histories;
 use crate::home::Home;
 use crate::journal::{Entries, Journal};
+use crate::retention::Retention;
 use crate::spares::Spares;
 use std::alloc::Global;
 use xl_base::OutOfMemory;
@@ -47,9 +48,9 @@ pub type Pass = xl_turns::Pass<Entry>;
 pub struct Store<B: Branch, K: Keeper> {
     pub(crate) lock: TicketLock<Box<Home<B, K>>, Entry, Histories<K>>,
     pub(crate) alloc: Global,
-    pub(crate) keeps: bool,
+    pub(crate) retention: Retention,
     pub(crate) spares: Spares,
-    pub ghost kept: { (opening lock).value.kept ≡ entries_if keeps [] },
+    pub ghost kept: { (opening lock).value.kept ≡ kept_of retention [] },
 }
 
 /// There was no memory for the store. The core and its keeper come back.
@@ -66,6 +67,15 @@ pub struct Closed<B: Branch, K> {
     pub keeper: K,
     /// All entries, which only contracts see.
     pub journal: Journal,
-    /// The same, if the store kept them.
+    /// Those that the store kept, if it keeps any: all, or those since reports were taken last.
+    pub entries: Option<Entries>,
+}
+
+/// What was taken in one turn.
+#[derive(Drop)]
+pub struct Handed {
+    /// How many reports stand at the front of the room.
+    pub count: usize,
+    /// The entries since reports were taken before, up to that of this turn, if the store hands them on.
     pub entries: Option<Entries>,
 }

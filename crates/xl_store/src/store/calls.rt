@@ -6,10 +6,12 @@ ghost use Rattle.xl_wire.specs.Raws.{SpellsRaw, raw_frame};
 ghost use Rattle.xl_core.specs.Answers.{Beats, Done, Told};
 ghost use Rattle.xl_core.specs.Replies.{taken_answer, done_answer};
 ghost use Rattle.xl_core.specs.declared.event.CoreEvent.TheVariants.{Issue, Frame, Timer, Submit, Greet, Stop, Stopped, Relist};
+ghost use Rattle.xl_turns.specs.Passes.{known};
+ghost use Rattle.xl_store.specs.Retentions.{handed_on};
 ghost use Rattle.xl_store.specs.Statuses.{status_of};
-ghost use Rattle.xl_store.specs.Stores.{start_of, core_seen, IsOf, Called, Drained, HandedOut, Refused};
+ghost use Rattle.xl_store.specs.Stores.{start_of, core_seen, retention_of, IsOf, Called, Drained, HandedOut, Refused};
 
-use super::{Pass, Store, StoreEnd};
+use super::{Handed, Pass, Store, StoreEnd};
 use crate::entry::copy_of;
 use crate::{NodeStatus, outcome};
 use std::sync::Wait;
@@ -205,24 +207,25 @@ impl<B: Branch + Drop, K: Keeper + Drop> Store<B, K> {
     }
 
     /// Takes out the oldest reports that no one has taken, as many as the room holds, and answers how many. The rest of
-    /// the room is as it was.
+    /// the room is as it was. A store that hands entries on does so here.
     pub fn reports<W: Wait>(
         &self,
         rt: &W,
         pass: &mut Pass,
         room: &mut [Report],
-    ) -> Result<usize, StoreEnd>
+    ) -> Result<Handed, StoreEnd>
         requires pass { IsOf self.now pass.old }
         ensures pass { IsOf self.now pass.new }
-        ensures called { IfOk result (λ written. HandedOut self.now pass.old written room.old room.new pass.new) }
+        ensures called { IfOk result (λ handed. HandedOut self.now pass.old handed.count room.old room.new pass.new) }
+        ensures entries { IfOk result (λ handed. handed.entries ≡ handed_on (retention_of self.now) (known pass.new).seen) }
         ensures refused { IfErr result (λ end. Refused self.now pass.old end pass.new) }
         ensures room { IfErr result (λ _. room.new ≡ room.old) }
     {
         let event = CoreEvent::Reports { room: room.len() };
         let (mut turn, page) = self.enter(rt, pass, event)?;
-        let written = turn.object.core.reports(room);
-        self.finish(pass, turn, page);
-        Ok(written)
+        let count = turn.object.core.reports(room);
+        let entries = self.finish(pass, turn, page);
+        Ok(Handed { count, entries })
     }
 
     /// Takes out reports as `reports` does, and tells how the node is then. It is one turn, and its entry is that of
@@ -232,10 +235,12 @@ impl<B: Branch + Drop, K: Keeper + Drop> Store<B, K> {
         rt: &W,
         pass: &mut Pass,
         room: &mut [Report],
-    ) -> Result<(usize, NodeStatus), StoreEnd>
+    ) -> Result<(Handed, NodeStatus), StoreEnd>
         requires pass { IsOf self.now pass.old }
         ensures pass { IsOf self.now pass.new }
-        ensures called { IfOk result (λ taken. HandedOut self.now pass.old taken.0 room.old room.new pass.new) }
+        ensures called { IfOk result (λ taken. HandedOut self.now pass.old taken.0.count room.old room.new pass.new) }
+        ensures entries { IfOk result (λ taken.
+            taken.0.entries ≡ handed_on (retention_of self.now) (known pass.new).seen) }
         // It is how the core is after all that the pass has then seen.
         ensures status { IfOk result (λ taken. taken.1 ≡ status_of (core_seen self.now pass.new)) }
         ensures refused { IfErr result (λ end. Refused self.now pass.old end pass.new) }
@@ -243,10 +248,10 @@ impl<B: Branch + Drop, K: Keeper + Drop> Store<B, K> {
     {
         let event = CoreEvent::Reports { room: room.len() };
         let (mut turn, page) = self.enter(rt, pass, event)?;
-        let written = turn.object.core.reports(room);
+        let count = turn.object.core.reports(room);
         let status = NodeStatus::of(&turn.object.core);
-        self.finish(pass, turn, page);
-        Ok((written, status))
+        let entries = self.finish(pass, turn, page);
+        Ok((Handed { count, entries }, status))
     }
 
     /// Notes that the node is to stop: whoever runs it asks `stopped`.

@@ -1,4 +1,4 @@
-ghost use Rattle.std.specs.Prelude.{◌≡◌, ◌<◌, ◌≤◌, ◌^◌, [], length, true, false, IfOk, IfErr};
+ghost use Rattle.std.specs.Prelude.{◌≡◌, ◌<◌, ◌≤◌, ◌^◌, length, IfOk, IfErr};
 ghost use mathlib.Core.List.{IsPrefix};
 ghost use Rattle.xl_turns.specs.Histories.{Runs};
 ghost use Rattle.xl_turns.specs.Knowing.{newcomer, first_part, second_part, joined};
@@ -6,17 +6,16 @@ ghost use Rattle.xl_turns.specs.Places.{all_below};
 ghost use Rattle.xl_turns.specs.Passes.{known};
 ghost use Rattle.xl_core.specs.CoreLives.{core_after};
 ghost use Rattle.xl_store.specs.Entries.{Leads, life_of};
-ghost use Rattle.xl_store.specs.Pages.{entries_if};
-ghost use Rattle.xl_store.specs.Stores.{start_of, keeper_of, turns_of, keeps_of, IsOf};
+ghost use Rattle.xl_store.specs.Retentions.{left_of};
+ghost use Rattle.xl_store.specs.declared.retention.Retention.TheVariants as retention;
+ghost use Rattle.xl_store.specs.Stores.{start_of, keeper_of, turns_of, retention_of, IsOf};
 ghost use Rattle.xl_store.specs.Closing.{KeepsAll};
 
 use super::{Closed, Pass, Spared, Store};
-use crate::entry::Entry;
 use crate::home::Home;
-use crate::journal::Entries;
+use crate::retention::{Kept, Retention};
 use crate::spares::Spares;
 use std::alloc::{AllocFailed, Global};
-use std::collections::LinkedList;
 use xl_core::Core;
 use xl_io::Keeper;
 use xl_ledger::Branch;
@@ -34,11 +33,11 @@ impl<B: Branch + Drop, K: Keeper + Drop> Store<B, K> {
         requires limit { (0 < limit) × (limit ≤ 2 ^ 62) }
         ensures start { IfOk result (λ opened. (start_of opened.0 ≡ core) × (keeper_of opened.0 ≡ keeper)) }
         ensures limit { IfOk result (λ opened. turns_of opened.0 ≡ limit) }
-        ensures keeps { IfOk result (λ opened. keeps_of opened.0 ≡ true) }
+        ensures keeps { IfOk result (λ opened. retention_of opened.0 ≡ retention.Whole) }
         ensures pass { IfOk result (λ opened. IsOf opened.0 opened.1 × (known opened.1 ≡ newcomer)) }
         ensures spared { IfErr result (λ spared. (spared.core ≡ core) × (spared.keeper ≡ keeper)) }
     {
-        Store::over(alloc, core, keeper, limit, true)
+        Store::over(alloc, core, keeper, limit, Retention::Whole)
     }
 
     /// The same, but it keeps no entry: its memory doesn't grow by its turns.
@@ -51,32 +50,49 @@ impl<B: Branch + Drop, K: Keeper + Drop> Store<B, K> {
         requires limit { (0 < limit) × (limit ≤ 2 ^ 62) }
         ensures start { IfOk result (λ opened. (start_of opened.0 ≡ core) × (keeper_of opened.0 ≡ keeper)) }
         ensures limit { IfOk result (λ opened. turns_of opened.0 ≡ limit) }
-        ensures keeps { IfOk result (λ opened. keeps_of opened.0 ≡ false) }
+        ensures keeps { IfOk result (λ opened. retention_of opened.0 ≡ retention.Nothing) }
         ensures pass { IfOk result (λ opened. IsOf opened.0 opened.1 × (known opened.1 ≡ newcomer)) }
         ensures spared { IfErr result (λ spared. (spared.core ≡ core) × (spared.keeper ≡ keeper)) }
     {
-        Store::over(alloc, core, keeper, limit, false)
+        Store::over(alloc, core, keeper, limit, Retention::Nothing)
     }
 
-    /// A store that keeps its entries or not.
+    /// The same, but it keeps entries only until reports are taken, and hands them on then.
+    pub fn open_passing(
+        alloc: Global,
+        core: Core<B>,
+        keeper: K,
+        limit: u64,
+    ) -> Result<(Store<B, K>, Pass), Spared<B, K>>
+        requires limit { (0 < limit) × (limit ≤ 2 ^ 62) }
+        ensures start { IfOk result (λ opened. (start_of opened.0 ≡ core) × (keeper_of opened.0 ≡ keeper)) }
+        ensures limit { IfOk result (λ opened. turns_of opened.0 ≡ limit) }
+        ensures keeps { IfOk result (λ opened. retention_of opened.0 ≡ retention.Passing) }
+        ensures pass { IfOk result (λ opened. IsOf opened.0 opened.1 × (known opened.1 ≡ newcomer)) }
+        ensures spared { IfErr result (λ spared. (spared.core ≡ core) × (spared.keeper ≡ keeper)) }
+    {
+        Store::over(alloc, core, keeper, limit, Retention::Passing)
+    }
+
+    /// A store that keeps such entries.
     fn over(
         alloc: Global,
         core: Core<B>,
         keeper: K,
         limit: u64,
-        keeps: bool,
+        retention: Retention,
     ) -> Result<(Store<B, K>, Pass), Spared<B, K>>
         requires limit { (0 < limit) × (limit ≤ 2 ^ 62) }
         ensures start { IfOk result (λ opened. (start_of opened.0 ≡ core) × (keeper_of opened.0 ≡ keeper)) }
         ensures limit { IfOk result (λ opened. turns_of opened.0 ≡ limit) }
-        ensures keeps { IfOk result (λ opened. keeps_of opened.0 ≡ keeps) }
+        ensures keeps { IfOk result (λ opened. retention_of opened.0 ≡ retention) }
         ensures pass { IfOk result (λ opened. IsOf opened.0 opened.1 × (known opened.1 ≡ newcomer)) }
         ensures spared { IfErr result (λ spared. (spared.core ≡ core) × (spared.keeper ≡ keeper)) }
     {
-        let Ok(spares) = Spares::new(alloc, keeps) else {
+        let Ok(spares) = Spares::new(alloc, retention != Retention::Nothing) else {
             return Err(Spared { core, keeper });
         };
-        let kept = no_entries(alloc, keeps);
+        let kept = Kept::new(alloc, retention);
         let home = match Box::new(alloc, Home { core, keeper, kept }) {
             Ok(home) => home,
             Err(AllocFailed { value }) => return Err(spare(value)),
@@ -86,7 +102,7 @@ impl<B: Branch + Drop, K: Keeper + Drop> Store<B, K> {
                 let store = Store {
                     lock,
                     alloc,
-                    keeps,
+                    retention,
                     spares,
                 };
                 Ok((store, pass))
@@ -132,13 +148,13 @@ impl<B: Branch + Drop, K: Keeper + Drop> Store<B, K> {
         ensures places { (known pass).mine ≡ all_below (length result.journal) }
         ensures limit { length result.journal ≤ turns_of self }
         ensures drawn { (known pass).drawn ≤ length result.journal }
-        // all of the journal was kept, or nothing, as it was opened
-        ensures kept { result.entries ≡ entries_if (keeps_of self) result.journal }
+        // as much of the journal is left as the store keeps
+        ensures kept { result.entries ≡ left_of (retention_of self) result.journal }
     {
         let Store {
             lock,
             alloc: _,
-            keeps: _,
+            retention: _,
             spares: _,
         } = self;
         let Held { object, journal } = lock.close(pass);
@@ -147,29 +163,8 @@ impl<B: Branch + Drop, K: Keeper + Drop> Store<B, K> {
             core,
             keeper,
             journal,
-            entries: handed_out(kept),
+            entries: kept.left(),
         }
-    }
-}
-
-/// Room for the entries to come, if they are to be kept.
-fn no_entries(alloc: Global, keeps: bool) -> Option<LinkedList<Entry>>
-    ensures { result ≡ entries_if keeps [] }
-{
-    if keeps {
-        Some(LinkedList::new(alloc))
-    } else {
-        None
-    }
-}
-
-/// What was kept, to be read.
-fn handed_out(kept: Option<LinkedList<Entry>>) -> Option<Entries>
-    ensures { result ≡ kept }
-{
-    match kept {
-        Some(rest) => Some(Entries { rest }),
-        None => None,
     }
 }
 

@@ -6,10 +6,11 @@ use Rattle.xl_turns.specs.Passes.{opening}
 use Rattle.xl_store.specs.declared.home.Home.{Home}
 use Rattle.xl_store.specs.Closing.{KeepsAll}
 use Rattle.xl_store.specs.Entries.{Leads}
+use Rattle.xl_store.specs.Retentions.{left_in}
 use Rattle.xl_store.specs.Stores.{start_of, keeper_of}
 use Rattle.xl_store.proofs.Journals.{after_runs}
 use Rattle.xl_store.proofs.Keeping.{cores_run, keeps_run}
-use Rattle.xl_store.proofs.Kept.{kept_all}
+use Rattle.xl_store.proofs.Kept.{kept_all, left_is}
 use Rattle.xl_store.proofs.store.Store.close.Goals as goal
 
 pub returns-clause-legal : goal.returns-clause-legal
@@ -30,7 +31,8 @@ returns-clause-keeper g c =
 
 pub returns-clause-kept : goal.returns-clause-kept
 returns-clause-kept g c =
-    c.handed_out.ensures
-    ∙ ap (λ (h : Home g.row.B.Denot g.row.K.Denot). h.kept) c.into_inner-core.ensures
-    ∙ kept_all g.K.Keeper.held g.K.Keeper.saves g.K.Keeper.faults g.K.Keeper.save_gives c.args.self.keeps
-    (opening c.args.self.lock) _ c.close-object.result.journal c.args.self.kept c.close-object.ensures.legal
+    c.left.ensures
+    ∙ ap (λ (h : Home g.row.B.Denot g.row.K.Denot). left_in h.kept) c.into_inner-core.ensures
+    ∙ ap left_in (kept_all g.K.Keeper.held g.K.Keeper.saves g.K.Keeper.faults g.K.Keeper.save_gives c.args.self.retention
+    (opening c.args.self.lock) _ c.close-object.result.journal c.args.self.kept c.close-object.ensures.legal)
+    ∙ left_is c.args.self.retention c.close-object.result.journal

@@ -1,16 +1,20 @@
 -- the event asks no save, so the core's step leads on by its entry, and what is handed out is that step's answer
-use Rattle.std.proofs.Common.{length, refl, None, ap}
+use Rattle.std.proofs.Common.{List, length, refl, None, ap, ◌∙◌, ◌++◌}
+use Rattle.xl_turns.specs.declared.view.Knowledge.{Knowledge}
+use Rattle.xl_turns.specs.Passes.{known}
 use Rattle.xl_core.specs.declared.event.CoreEvent.{CoreEvent}
 use Rattle.xl_core.specs.declared.event.CoreEvent.TheVariants.{Reports}
 use Rattle.xl_core.specs.Answers.{handed_in}
 use Rattle.xl_core.specs.Replies.{reports_reply}
+use Rattle.xl_store.specs.declared.entry.Entry.{Entry}
 use Rattle.xl_store.specs.Entries.{entry_of}
 use Rattle.xl_store.specs.Pages.{on}
+use Rattle.xl_store.proofs.Kept.{handed_last}
 use Rattle.xl_store.proofs.Turning.{goes_on, called}
 use Rattle.xl_store.proofs.store.Store.reports.Goals as goal
 
-pub finish-requires-clause-ends : goal.finish-requires-clause-ends
-finish-requires-clause-ends g c =
+pub finish-entries-requires-clause-ends : goal.finish-entries-requires-clause-ends
+finish-entries-requires-clause-ends g c =
     let event : CoreEvent = Reports (length c.args.room.now) in
     let b = c.in_ok-turn.ensures.begun in
     record {
@@ -19,7 +23,7 @@ finish-requires-clause-ends g c =
       runs = b.found;
       goes = goes_on g.K.Keeper.held g.K.Keeper.saves g.K.Keeper.faults g.K.Keeper.save_gives
           c.in_ok-turn.turn.object.value c.deref_mut.result.now _ event c.deref_mut.ensures.value tt refl
-          c.reports-written.ensures.step.core refl;
+          c.reports-count.ensures.step.core refl;
       kept = ap (λ h. h.kept) c.deref_mut.ensures.value;
       written = b.written;
       node = b.node;
@@ -30,9 +34,19 @@ returns-clause-called g c =
     let b = c.in_ok-turn.ensures.begun in
     record {
       reports = handed_in (reports_reply c.deref_mut.result.now.core c.args.room.now).answer;
-      called = called g.K.Keeper.held g.K.Keeper.saves g.K.Keeper.faults g.K.Keeper.save_gives c.args.self.now c.args.pass.now c.finish.new.pass
+      called = called g.K.Keeper.held g.K.Keeper.saves g.K.Keeper.faults g.K.Keeper.save_gives c.args.self.now c.args.pass.now c.finish-entries.new.pass
           (Reports (length c.args.room.now)) None _ c.in_ok-turn.turn c.in_ok-turn.page (on c.in_ok-turn.page)
-          c.deref_mut.result.now c.deref_mut.ensures.value b b.written c.finish.ensures.known c.finish.ensures.legal refl;
-      count = c.reports-written.ensures.step.count;
-      room = c.reports-written.ensures.step.room;
+          c.deref_mut.result.now c.deref_mut.ensures.value b b.written c.finish-entries.ensures.known c.finish-entries.ensures.legal refl;
+      count = c.reports-count.ensures.step.count;
+      room = c.reports-count.ensures.step.room;
     }
+
+pub returns-clause-entries : goal.returns-clause-entries
+returns-clause-entries g c =
+    let event : CoreEvent = Reports (length c.args.room.now) in
+    let b = c.in_ok-turn.ensures.begun in
+    c.finish-entries.ensures.handed (entry_of event None) b.written
+    ∙ handed_last c.args.self.now.retention c.in_ok-turn.turn.journal (known c.finish-entries.new.pass).seen
+    (entry_of event None) refl
+    (ap (λ (k : Knowledge Entry). k.seen) c.finish-entries.ensures.known
+    ∙ ap (λ (p : List Entry). c.in_ok-turn.turn.journal ++ p) b.written)
