@@ -1,10 +1,10 @@
 -- What a history leaves of the entries that are kept.
 use Rattle.std.proofs.Common.{◌≡◌, ◌≤◌, ℕ, ◌+◌, ◌-◌, ◌<◌, ◌^◌, Bool, true, false, not, cond, List, [], ◌∷◌, ◌++◌, length, take, drop, reverse, get_or, refl, sym, ap, ◌∙◌, subst, arith, append_assoc, append-nil, length-append, Option, Some, None}
 use Rattle.std.specs.Global.{Box}
-use Rattle.std.specs.List.{take_while, prefix_len}
-use Rattle.std.proofs.lemmas.List.{length-reverse, length-take, reverse-append}
-use Rattle.std.proofs.lemmas.List.Sums.{take_while-cons}
-use Rattle.std.proofs.Math.Seq.{take-append_seam, drop-append_seam}
+use Rattle.std.specs.List.{prefix_len}
+use Rattle.std.proofs.lemmas.List.{drop-append-le, length-drop, length-reverse, reverse-append}
+use Rattle.std.proofs.lemmas.List.Sums.{prefix_len-le-length}
+use Rattle.std.proofs.Math.Seq.{take-append_seam, drop-append-add}
 use Rattle.xl_io.specs.Keepers.{Held}
 use Rattle.xl_core.specs.Core.{Core, core_asks}
 use Rattle.xl_core.specs.Keeping.{IsAsked}
@@ -18,40 +18,48 @@ use Rattle.xl_store.specs.declared.retention.Kept.{Kept}
 use Rattle.xl_store.specs.declared.retention.Kept.TheVariants as kept
 use Rattle.xl_store.specs.Entries.{save_of, Leads}
 use Rattle.xl_store.specs.Homes.{IsCounted, Goes, LeadsHome}
-use Rattle.xl_store.specs.Retentions.{how_many, is_something, keeps_any, kept_of, kept_with, left_in, left_of, handed_on, passed_by, passed_on, passed_with, since_reports, takes_reports}
+use Rattle.xl_store.specs.Retentions.{how_many, is_something, keeps_any, kept_of, kept_with, left_in, left_of, handed_on, passed_by, passed_on, passed_with, since_reports, through_reports, from_place, takes_reports}
 
 -- an entry that isn't kept over a taking of reports
 abbrev passes : Entry → Bool
 passes e = not (takes_reports e.event)
 
--- the entries since reports were taken, with one more
-since_more : (es : List Entry) (e : Entry)
-    → since_reports (es ++ e ∷ []) ≡ cond (takes_reports e.event) [] (since_reports es ++ e ∷ [])
-since_more es e =
-    ap (λ (l : List Entry). reverse (take_while passes l)) (reverse-append es (e ∷ []))
-    ∙ ap (λ (l : List Entry). reverse l) (take_while-cons passes e (reverse es))
-    ∙ by (takes_reports e.event)
+-- the place up to which reports were taken, with one entry more
+through_more : (es : List Entry) (e : Entry)
+    → through_reports (es ++ e ∷ []) ≡ cond (takes_reports e.event) (length es + 1) (through_reports es)
+through_more es e =
+    (λ i. length-append es (e ∷ []) i - prefix_len passes (reverse-append es (e ∷ []) i)) ∙ by (takes_reports e.event)
   where
-    by : (b : Bool) → reverse (cond (not b) (e ∷ take_while passes (reverse es)) [])
-        ≡ cond b [] (reverse (take_while passes (reverse es)) ++ e ∷ [])
-    by true = refl
-    by false = reverse-append (e ∷ []) (take_while passes (reverse es))
+    by : (b : Bool) → length es + 1 - cond (not b) (1 + prefix_len passes (reverse es)) 0
+        ≡ cond b (length es + 1) (through_reports es)
+    by true = omega arith
+    by false = omega (arith, prefix_len-le-length passes (reverse es), length-reverse es)
 
-since_fewer : (es : List Entry) → length (since_reports es) ≤ length es
-since_fewer es =
-    omega (
-      arith,
-      length-reverse (take_while passes (reverse es)),
-      length-take (prefix_len passes (reverse es)) (reverse es),
-      length-reverse es,
-    )
+through_below : (es : List Entry) → through_reports es ≤ length es
+through_below es = omega arith
+
+-- so many stand there, and the others behind them
+through_since : (es : List Entry) → through_reports es + length (since_reports es) ≡ length es
+through_since es = omega (arith, length-drop (through_reports es) es, through_below es)
 
 -- what is kept of a history, with one entry more
 kept_more : (k : Retention) (es : List Entry) (e : Entry)
     → kept_with (kept_of k es) (takes_reports e.event) (e ∷ []) ≡ kept_of k (es ++ e ∷ [])
 kept_more retention.Nothing es e = refl
 kept_more retention.Whole es e = refl
-kept_more retention.Passing es e = ap kept.Passing (sym (since_more es e))
+kept_more retention.Passing es e =
+    by (takes_reports e.event) (through_reports (es ++ e ∷ [])) (through_more es e)
+  where
+    by : (b : Bool) (place : ℕ) → place ≡ cond b (length es + 1) (through_reports es)
+        → kept_with (kept.Passing (through_reports es) (since_reports es)) b (e ∷ [])
+        ≡ kept.Passing place (drop place (es ++ e ∷ []))
+    by true place is =
+        let all : through_reports es + (length (since_reports es) + 1) ≡ length es + 1 = omega (arith, through_since es) in
+        let none : drop (length es + 1) (es ++ e ∷ []) ≡ [] = drop-append-add es (e ∷ []) 1 in
+        (λ i. kept.Passing (all i) (sym none i)) ∙ ap (λ (n : ℕ). kept.Passing n (drop n (es ++ e ∷ []))) (sym is)
+    by false place is =
+        ap (kept.Passing (through_reports es)) (sym (drop-append-le (through_reports es) es (e ∷ []) (through_below es)))
+        ∙ ap (λ (n : ℕ). kept.Passing n (drop n (es ++ e ∷ []))) (sym is)
 
 some_if : (k : Retention) (es : List Entry) → is_something (kept_of k es) ≡ keeps_any k
 some_if retention.Nothing es = refl
@@ -61,7 +69,7 @@ some_if retention.Passing es = refl
 few : (k : Retention) (es : List Entry) → how_many (kept_of k es) ≤ length es
 few retention.Nothing es = omega arith
 few retention.Whole es = omega arith
-few retention.Passing es = since_fewer es
+few retention.Passing es = omega (arith, through_since es)
 
 pub only_one : (a b : Entry) → a ∷ [] ≡ b ∷ [] → a ≡ b
 only_one a b same = ap (λ (l : List Entry). get_or l 0 a) same
@@ -98,10 +106,13 @@ handed_last retention.Passing earlier seen e takes is =
     omega (arith, ap (length {A = Entry}) is, length-append earlier (e ∷ [])) in
     let front : take (length seen - 1) seen ≡ earlier =
     (λ i. take (long i) (is i)) ∙ take-append_seam earlier (e ∷ []) in
-    let back : drop (length seen - 1) seen ≡ e ∷ [] =
-    (λ i. drop (long i) (is i)) ∙ drop-append_seam earlier (e ∷ []) in
-    ap (λ (b : Bool). passed_on b (since_reports earlier ++ e ∷ [])) takes
-    ∙ sym (λ i. Some (since_reports (front i) ++ back i))
+    let place : through_reports (take (length seen - 1) seen) ≡ through_reports earlier = ap through_reports front in
+    let rest : drop (through_reports earlier) seen ≡ since_reports earlier ++ e ∷ [] =
+    ap (drop (through_reports earlier)) is
+    ∙ drop-append-le (through_reports earlier) earlier (e ∷ []) (through_below earlier) in
+    ap (λ (b : Bool). passed_on b (through_reports earlier) (since_reports earlier ++ e ∷ [])) takes
+    ∙ ap (λ (es : List Entry). Some (record { first = through_reports earlier; entries = es })) (sym rest)
+    ∙ ap (λ (n : ℕ). Some (from_place n seen)) (sym place)
 
 module _ {B K : Type 0}
     (held_by : K → Option Held) (saves_of : K → Option (List ℕ)) (faults_of : K → ℕ)

@@ -5,7 +5,7 @@ ghost use Rattle.xl_core.specs.Answers.{Beats};
 ghost use Rattle.xl_core.specs.Replies.{done_answer};
 ghost use Rattle.xl_store.specs.Entries.{entry_of};
 ghost use Rattle.xl_store.specs.Outcomes.{outcome_in, outcome_at};
-ghost use Rattle.xl_store.specs.Retentions.{entries_in, how_many, is_something, kept_with, passed_with};
+ghost use Rattle.xl_store.specs.Retentions.{batch_in, how_many, is_something, kept_with, passed_with};
 ghost use Rattle.xl_store.specs.Pages.{on, has_node};
 ghost use Rattle.xl_store.specs.Homes.{AnswersHome};
 
@@ -59,7 +59,7 @@ impl<B: Branch + Drop, K: Keeper> Home<B, K> {
         ensures core { self.new.core ≡ self.old.core }
         ensures keeper { self.new.keeper ≡ self.old.keeper }
         ensures kept { self.new.kept ≡ kept_with self.old.kept takes (on page) }
-        ensures gone { entries_in result ≡ passed_with self.old.kept takes (on page) }
+        ensures gone { batch_in result ≡ passed_with self.old.kept takes (on page) }
     {
         match page {
             Page::Linked(node) => match &mut self.kept {
@@ -68,7 +68,7 @@ impl<B: Branch + Drop, K: Keeper> Home<B, K> {
                     link(kept, node);
                     Gone::Nothing
                 }
-                Kept::Passing(kept) => link_or_pass(alloc, kept, node, takes),
+                Kept::Passing(first, kept) => link_or_pass(alloc, first, kept, node, takes),
             },
             Page::Bare(entry) => Gone::Entry(entry),
         }

@@ -36,6 +36,6 @@ pub use entry::{Entry, Saved};
 pub use history::Histories;
 pub use home::Home;
 pub use journal::{Entries, Journal};
-pub use retention::Retention;
+pub use retention::{Batch, Retention};
 pub use status::NodeStatus;
 pub use store::{Closed, Handed, Pass, Spared, Store, StoreEnd};

@@ -1,5 +1,5 @@
 ghost use Rattle.std.specs.Prelude.{◌≡◌, ◌+◌, ◌<◌, ◌^◌, ◌++◌, [], length, Some, None, if◌then◌else◌};
-ghost use Rattle.xl_store.specs.Retentions.{entries_in, is_something, kept_of, left_in, passed_on};
+ghost use Rattle.xl_store.specs.Retentions.{batch_in, kept_of, left_in, passed_on};
 
 use crate::entry::Entry;
 use crate::journal::Entries;
@@ -18,12 +18,21 @@ pub enum Retention {
     Passing,
 }
 
+/// Entries that stand one after the other in a journal.
+#[derive(Drop)]
+pub struct Batch {
+    /// The place of the first.
+    pub first: u64,
+    pub entries: Entries,
+}
+
 /// What is kept, oldest first.
 #[derive(Drop)]
 pub(crate) enum Kept {
     Nothing,
     Whole(LinkedList<Entry>),
-    Passing(LinkedList<Entry>),
+    /// The entries from a place on.
+    Passing(u64, LinkedList<Entry>),
 }
 
 /// What leaves a store behind a turn.
@@ -33,7 +42,7 @@ pub(crate) enum Gone {
     /// The turn's own entry, if none is kept. It is freed there.
     Entry(Entry),
     /// What is handed to whoever took reports.
-    Entries(Entries),
+    Batch(Batch),
 }
 
 impl Kept {
@@ -44,7 +53,7 @@ impl Kept {
         match retention {
             Retention::Nothing => Kept::Nothing,
             Retention::Whole => Kept::Whole(LinkedList::new(alloc)),
-            Retention::Passing => Kept::Passing(LinkedList::new(alloc)),
+            Retention::Passing => Kept::Passing(0, LinkedList::new(alloc)),
         }
     }
 
@@ -55,20 +64,20 @@ impl Kept {
         match self {
             Kept::Nothing => None,
             Kept::Whole(rest) => Some(Entries { rest }),
-            Kept::Passing(rest) => Some(Entries { rest }),
+            Kept::Passing(_, rest) => Some(Entries { rest }),
         }
     }
 }
 
 impl Gone {
     /// What is handed on.
-    pub(crate) fn entries(self) -> Option<Entries>
-        ensures { result ≡ entries_in self }
+    pub(crate) fn batch(self) -> Option<Batch>
+        ensures { result ≡ batch_in self }
     {
         match self {
             Gone::Nothing => None,
             Gone::Entry(_) => None,
-            Gone::Entries(entries) => Some(entries),
+            Gone::Batch(batch) => Some(batch),
         }
     }
 }
@@ -84,22 +93,28 @@ pub(crate) fn link(kept: &mut LinkedList<Entry>, mut node: LinkedList<Entry>)
     node.destroy_empty();
 }
 
-/// Links the node behind the others, and hands all of them on, if it is one by which reports are taken.
+/// Links the node behind the others, which stand from a place on. If reports are taken by it, all of them are handed on.
 pub(crate) fn link_or_pass(
     alloc: Global,
+    first: &mut u64,
     kept: &mut LinkedList<Entry>,
     node: LinkedList<Entry>,
     takes: bool,
 ) -> Gone
-    requires room { length kept.old + length node < 2 ^ 63 }
+    requires room { first.old + length kept.old + length node < 2 ^ 63 }
+    ensures first { first.new ≡ (if takes then first.old + (length kept.old + length node) else first.old) }
     ensures kept { kept.new ≡ (if takes then [] else kept.old ++ node) }
-    ensures gone { entries_in result ≡ passed_on takes (kept.old ++ node) }
+    ensures gone { batch_in result ≡ passed_on takes first.old (kept.old ++ node) }
 {
     link(kept, node);
-    if takes {
-        let rest = mem::replace(kept, LinkedList::new(alloc));
-        Gone::Entries(Entries { rest })
-    } else {
-        Gone::Nothing
+    if !takes {
+        return Gone::Nothing;
     }
+    let rest = mem::replace(kept, LinkedList::new(alloc));
+    let batch = Batch {
+        first: *first,
+        entries: Entries { rest },
+    };
+    *first += batch.entries.len();
+    Gone::Batch(batch)
 }

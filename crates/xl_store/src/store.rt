@@ -6,7 +6,7 @@ use crate::entry::Entry;
 use crate::history::Histories;
 use crate::home::Home;
 use crate::journal::{Entries, Journal};
-use crate::retention::Retention;
+use crate::retention::{Batch, Retention};
 use crate::spares::Spares;
 use std::alloc::Global;
 use xl_base::OutOfMemory;
@@ -77,5 +77,5 @@ pub struct Handed {
     /// How many reports stand at the front of the room.
     pub count: usize,
     /// The entries since reports were taken before, up to that of this turn, if the store hands them on.
-    pub entries: Option<Entries>,
+    pub batch: Option<Batch>,
 }

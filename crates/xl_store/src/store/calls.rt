@@ -217,15 +217,15 @@ impl<B: Branch + Drop, K: Keeper + Drop> Store<B, K> {
         requires pass { IsOf self.now pass.old }
         ensures pass { IsOf self.now pass.new }
         ensures called { IfOk result (λ handed. HandedOut self.now pass.old handed.count room.old room.new pass.new) }
-        ensures entries { IfOk result (λ handed. handed.entries ≡ handed_on (retention_of self.now) (known pass.new).seen) }
+        ensures batch { IfOk result (λ handed. handed.batch ≡ handed_on (retention_of self.now) (known pass.new).seen) }
         ensures refused { IfErr result (λ end. Refused self.now pass.old end pass.new) }
         ensures room { IfErr result (λ _. room.new ≡ room.old) }
     {
         let event = CoreEvent::Reports { room: room.len() };
         let (mut turn, page) = self.enter(rt, pass, event)?;
         let count = turn.object.core.reports(room);
-        let entries = self.finish(pass, turn, page);
-        Ok(Handed { count, entries })
+        let batch = self.finish(pass, turn, page);
+        Ok(Handed { count, batch })
     }
 
     /// Takes out reports as `reports` does, and tells how the node is then. It is one turn, and its entry is that of
@@ -239,8 +239,8 @@ impl<B: Branch + Drop, K: Keeper + Drop> Store<B, K> {
         requires pass { IsOf self.now pass.old }
         ensures pass { IsOf self.now pass.new }
         ensures called { IfOk result (λ taken. HandedOut self.now pass.old taken.0.count room.old room.new pass.new) }
-        ensures entries { IfOk result (λ taken.
-            taken.0.entries ≡ handed_on (retention_of self.now) (known pass.new).seen) }
+        ensures batch { IfOk result (λ taken.
+            taken.0.batch ≡ handed_on (retention_of self.now) (known pass.new).seen) }
         // It is how the core is after all that the pass has then seen.
         ensures status { IfOk result (λ taken. taken.1 ≡ status_of (core_seen self.now pass.new)) }
         ensures refused { IfErr result (λ end. Refused self.now pass.old end pass.new) }
@@ -250,8 +250,8 @@ impl<B: Branch + Drop, K: Keeper + Drop> Store<B, K> {
         let (mut turn, page) = self.enter(rt, pass, event)?;
         let count = turn.object.core.reports(room);
         let status = NodeStatus::of(&turn.object.core);
-        let entries = self.finish(pass, turn, page);
-        Ok((Handed { count, entries }, status))
+        let batch = self.finish(pass, turn, page);
+        Ok((Handed { count, batch }, status))
     }
 
     /// Notes that the node is to stop: whoever runs it asks `stopped`.

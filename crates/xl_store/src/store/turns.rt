@@ -14,9 +14,8 @@ ghost use Rattle.xl_store.specs.Stores.{retention_of, IsOf, Begun, Ends, Refused
 use super::{Pass, Store, StoreEnd};
 use crate::entry::Entry;
 use crate::home::Home;
-use crate::journal::Entries;
 use crate::page::Page;
-use crate::retention::Retention;
+use crate::retention::{Batch, Retention};
 use std::sync::Wait;
 use xl_base::OutOfMemory;
 use xl_core::CoreEvent;
@@ -103,7 +102,7 @@ impl<B: Branch + Drop, K: Keeper + Drop> Store<B, K> {
         pass: &mut Pass,
         mut turn: Turn<Box<Home<B, K>>, Entry>,
         page: Page,
-    ) -> Option<Entries>
+    ) -> Option<Batch>
         requires turn { HasTurn self.now.lock pass.old turn }
         requires ends { Ends K.held K.saves K.faults K.save_gives self.now turn page }
         ensures pass { IsOf self.now pass.new }
@@ -119,6 +118,6 @@ impl<B: Branch + Drop, K: Keeper + Drop> Store<B, K> {
         let gone = turn.object.keep(self.alloc, page, takes);
         self.lock.finish(pass, turn, written);
         // What isn't kept is freed behind the turn.
-        gone.entries()
+        gone.batch()
     }
 }

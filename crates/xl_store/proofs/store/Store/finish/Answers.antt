@@ -67,6 +67,6 @@ returns-clause-handed g c e is =
     ∙ kept_all g.K.Keeper.held g.K.Keeper.saves g.K.Keeper.faults g.K.Keeper.save_gives c.args.self.now.retention
     (opening c.args.self.now.lock) ends.found c.args.turn.journal c.args.self.now.kept ends.runs in
     let takes = c.takes_reports-takes.ensures ∙ ap (λ (x : Entry). takes_reports x.event) same in
-    c.entries.ensures ∙ c.keep-gone.ensures.gone
+    c.batch.ensures ∙ c.keep-gone.ensures.gone
     ∙ (λ i. passed_with (kept i) (takes i) (is i))
     ∙ passed_is c.args.self.now.retention c.args.turn.journal e

@@ -13,8 +13,8 @@ use Rattle.xl_store.proofs.Kept.{handed_last}
 use Rattle.xl_store.proofs.Turning.{goes_on, called}
 use Rattle.xl_store.proofs.store.Store.reports.Goals as goal
 
-pub finish-entries-requires-clause-ends : goal.finish-entries-requires-clause-ends
-finish-entries-requires-clause-ends g c =
+pub finish-batch-requires-clause-ends : goal.finish-batch-requires-clause-ends
+finish-batch-requires-clause-ends g c =
     let event : CoreEvent = Reports (length c.args.room.now) in
     let b = c.in_ok-turn.ensures.begun in
     record {
@@ -34,19 +34,19 @@ returns-clause-called g c =
     let b = c.in_ok-turn.ensures.begun in
     record {
       reports = handed_in (reports_reply c.deref_mut.result.now.core c.args.room.now).answer;
-      called = called g.K.Keeper.held g.K.Keeper.saves g.K.Keeper.faults g.K.Keeper.save_gives c.args.self.now c.args.pass.now c.finish-entries.new.pass
+      called = called g.K.Keeper.held g.K.Keeper.saves g.K.Keeper.faults g.K.Keeper.save_gives c.args.self.now c.args.pass.now c.finish-batch.new.pass
           (Reports (length c.args.room.now)) None _ c.in_ok-turn.turn c.in_ok-turn.page (on c.in_ok-turn.page)
-          c.deref_mut.result.now c.deref_mut.ensures.value b b.written c.finish-entries.ensures.known c.finish-entries.ensures.legal refl;
+          c.deref_mut.result.now c.deref_mut.ensures.value b b.written c.finish-batch.ensures.known c.finish-batch.ensures.legal refl;
       count = c.reports-count.ensures.step.count;
       room = c.reports-count.ensures.step.room;
     }
 
-pub returns-clause-entries : goal.returns-clause-entries
-returns-clause-entries g c =
+pub returns-clause-batch : goal.returns-clause-batch
+returns-clause-batch g c =
     let event : CoreEvent = Reports (length c.args.room.now) in
     let b = c.in_ok-turn.ensures.begun in
-    c.finish-entries.ensures.handed (entry_of event None) b.written
-    ∙ handed_last c.args.self.now.retention c.in_ok-turn.turn.journal (known c.finish-entries.new.pass).seen
+    c.finish-batch.ensures.handed (entry_of event None) b.written
+    ∙ handed_last c.args.self.now.retention c.in_ok-turn.turn.journal (known c.finish-batch.new.pass).seen
     (entry_of event None) refl
-    (ap (λ (k : Knowledge Entry). k.seen) c.finish-entries.ensures.known
+    (ap (λ (k : Knowledge Entry). k.seen) c.finish-batch.ensures.known
     ∙ ap (λ (p : List Entry). c.in_ok-turn.turn.journal ++ p) b.written)
