@@ -17,7 +17,7 @@ pub fn counted(store: Stored, pass: Pass) -> Option<(u64, u64)>
     requires pass { IsOf store pass }
 {
     if pass.is_whole() {
-        Some(frames_and_greetings(store.close(pass).entries?))
+        Some(frames_and_greetings(store.close(pass).left?.entries))
     } else {
         None
     }

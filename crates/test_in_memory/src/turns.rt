@@ -80,7 +80,7 @@ fn entries(store: Stored, pass: Pass) -> Option<u64>
     requires pass { IsOf store pass }
 {
     if pass.is_whole() {
-        Some(store.close(pass).entries?.len())
+        Some(store.close(pass).left?.entries.len())
     } else {
         None
     }

@@ -11,7 +11,7 @@
 //! history of the core, with the replies that are written.
 //!
 //! ```
-//! write_journal(alloc, settings, now, kept, store.close(pass).entries, &mut output)?;
+//! write_journal(alloc, settings, now, kept, store.close(pass).left?.entries, &mut output)?;
 //! // and later, over the bytes that were written
 //! let verdict = tell::<Audit, _, _>(alloc, &mut input, &mut output)?; // `yes 200`
 //! ```

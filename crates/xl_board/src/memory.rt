@@ -4,7 +4,8 @@ ghost use Rattle.xl_base.specs.Faults.{Rose};
 
 use crate::{Board, Boards, NotOpened};
 use std::alloc::Global;
-use xl_io::Failed;
+use xl_base::Millis;
+use xl_io::{Failed, MemSink};
 
 /// A board in memory, of whose calls some fail: those that are listed, by their numbers from 1 on, and those for which
 /// memory runs out. A call that fails leaves the former text.
@@ -104,7 +105,7 @@ impl Board for MemBoard {
     }
 }
 
-/// Boards in memory, on each of which nothing stands when it is opened. Whether it opens any is said at first.
+/// Boards and journals in memory. Nothing stands on each when it is opened. Whether it opens any is said at first.
 #[derive(Drop)]
 pub struct MemBoards {
     alloc: Global,
@@ -123,10 +124,21 @@ impl MemBoards {
             faults: 0,
         }
     }
+
+    /// Counts a fault.
+    fn fail(&mut self) -> NotOpened
+        ensures why { result ≡ NotOpened.Failed }
+        ensures later { self.old.faults ≤ self.new.faults }
+        ensures rose { Rose self.old.faults self.new.faults }
+    {
+        self.faults = one_more(self.faults);
+        NotOpened::Failed
+    }
 }
 
 impl Boards for MemBoards {
     type D = MemBoard;
+    type J = MemSink;
 
     ghost stands = { λ boards path. Some None };
 
@@ -136,8 +148,18 @@ impl Boards for MemBoards {
         if self.opens {
             return Ok(MemBoard::new(self.alloc, Vec::new(self.alloc)));
         }
-        self.faults = one_more(self.faults);
-        Err(NotOpened::Failed)
+        Err(self.fail())
+    }
+
+    fn open_journal(&mut self, _path: &str, _now: Millis) -> Result<MemSink, NotOpened> {
+        if self.opens {
+            return Ok(MemSink::new(
+                self.alloc,
+                usize::MAX,
+                Vec::new(self.alloc),
+            ));
+        }
+        Err(self.fail())
     }
 
     fn faults(&self) -> u64 {

@@ -2,6 +2,7 @@ pub mod Entries
 pub mod Outcomes
 pub mod Pages
 pub mod Retentions
+pub mod Recording
 pub mod Homes
 pub mod Calls
 pub mod Stores

@@ -38,15 +38,15 @@ kept_of retention.Nothing es = kept.Nothing
 kept_of retention.Whole es = kept.Whole es
 kept_of retention.Passing es = kept.Passing (through_reports es) (since_reports es)
 
--- what a store that kept so leaves of a history
-abbrev pub left_of : Retention → List Entry → Option (List Entry)
-left_of retention.Nothing es = None
-left_of retention.Whole es = Some es
-left_of retention.Passing es = Some (since_reports es)
-
 -- these entries of a history, from a place on
 abbrev pub from_place : ℕ → List Entry → Batch
 from_place first es = record { first = first; entries = drop first es }
+
+-- what a store that kept so leaves of a history
+abbrev pub left_of : Retention → List Entry → Option Batch
+left_of retention.Nothing es = None
+left_of retention.Whole es = Some (from_place 0 es)
+left_of retention.Passing es = Some (from_place (through_reports es) es)
 
 -- What is handed on when the last entry of a history takes reports: all from the place on up to which reports had been
 -- taken before
@@ -60,10 +60,10 @@ abbrev pub is_something : Kept → Bool
 is_something kept.Nothing = false
 is_something other = true
 
-abbrev pub left_in : Kept → Option (List Entry)
+abbrev pub left_in : Kept → Option Batch
 left_in kept.Nothing = None
-left_in (kept.Whole es) = Some es
-left_in (kept.Passing first es) = Some es
+left_in (kept.Whole es) = Some (record { first = 0; entries = es })
+left_in (kept.Passing first es) = Some (record { first = first; entries = es })
 
 abbrev pub batch_in : Gone → Option Batch
 batch_in gone.Nothing = None

@@ -58,13 +58,13 @@ impl Kept {
     }
 
     /// What is left, to be read.
-    pub(crate) fn left(self) -> Option<Entries>
+    pub(crate) fn left(self) -> Option<Batch>
         ensures { result ≡ left_in self }
     {
         match self {
             Kept::Nothing => None,
-            Kept::Whole(rest) => Some(Entries { rest }),
-            Kept::Passing(_, rest) => Some(Entries { rest }),
+            Kept::Whole(rest) => Some(batch_from(0, rest)),
+            Kept::Passing(first, rest) => Some(batch_from(first, rest)),
         }
     }
 }
@@ -79,6 +79,16 @@ impl Gone {
             Gone::Entry(_) => None,
             Gone::Batch(batch) => Some(batch),
         }
+    }
+}
+
+/// These entries, from a place on.
+fn batch_from(first: u64, rest: LinkedList<Entry>) -> Batch
+    ensures { result ≡ record { first = first; entries = rest } }
+{
+    Batch {
+        first,
+        entries: Entries { rest },
     }
 }
 
@@ -111,10 +121,7 @@ pub(crate) fn link_or_pass(
         return Gone::Nothing;
     }
     let rest = mem::replace(kept, LinkedList::new(alloc));
-    let batch = Batch {
-        first: *first,
-        entries: Entries { rest },
-    };
+    let batch = batch_from(*first, rest);
     *first += batch.entries.len();
     Gone::Batch(batch)
 }

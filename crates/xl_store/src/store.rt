@@ -5,7 +5,7 @@ ghost use Rattle.xl_store.specs.Retentions.{kept_of};
 use crate::entry::Entry;
 use crate::history::Histories;
 use crate::home::Home;
-use crate::journal::{Entries, Journal};
+use crate::journal::Journal;
 use crate::retention::{Batch, Retention};
 use crate::spares::Spares;
 use std::alloc::Global;
@@ -68,7 +68,7 @@ pub struct Closed<B: Branch, K> {
     /// All entries, which only contracts see.
     pub journal: Journal,
     /// Those that the store kept, if it keeps any: all, or those since reports were taken last.
-    pub entries: Option<Entries>,
+    pub left: Option<Batch>,
 }
 
 /// What was taken in one turn.

@@ -149,7 +149,7 @@ impl<B: Branch + Drop, K: Keeper + Drop> Store<B, K> {
         ensures limit { length result.journal ≤ turns_of self }
         ensures drawn { (known pass).drawn ≤ length result.journal }
         // as much of the journal is left as the store keeps
-        ensures kept { result.entries ≡ left_of (retention_of self) result.journal }
+        ensures kept { result.left ≡ left_of (retention_of self) result.journal }
     {
         let Store {
             lock,
@@ -163,7 +163,7 @@ impl<B: Branch + Drop, K: Keeper + Drop> Store<B, K> {
             core,
             keeper,
             journal,
-            entries: kept.left(),
+            left: kept.left(),
         }
     }
 }
