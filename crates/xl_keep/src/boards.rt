@@ -65,6 +65,7 @@ where
     R::File: Lockable + Send,
 {
     type D = FileBoard<SystemFile<R>>;
+
     type J = StdSink<R::File>;
 
     ghost stands = { λ _ _. None };
