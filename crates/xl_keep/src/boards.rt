@@ -1,26 +1,31 @@
 ghost use Rattle.std.specs.Prelude.{◌≡◌, None, IfOk};
 
+use crate::journals::new_journal;
 use crate::{FileBoard, Lockable, SystemFile};
 use std::alloc::Global;
 use std::fs::Files;
 use std::time::Clock;
-use xl_base::OutOfMemory;
+use xl_base::{Millis, OutOfMemory};
 use xl_board::{Board, Boards, NotOpened};
-use xl_io::Failed;
+use xl_io::{Failed, StdSink};
 
-/// What opens a board in a file of the system, once: there is one way to the system's files in it.
+/// What opens a board in a file of the system, once, and files for journals: a board takes its way to the system's files
+/// along, and a journal doesn't.
 #[derive(Drop)]
 pub struct SystemBoards<R> {
     alloc: Global,
     files: Option<R>,
+    journals: R,
     faults: u64,
 }
 
 impl<R> SystemBoards<R> {
-    pub fn new(alloc: Global, files: R) -> Self {
+    /// Both are ways to the same files.
+    pub fn new(alloc: Global, files: R, journals: R) -> Self {
         SystemBoards {
             alloc,
             files: Some(files),
+            journals,
             faults: 0,
         }
     }
@@ -61,6 +66,8 @@ where
 {
     type D = FileBoard<SystemFile<R>>;
 
+    type J = StdSink<R::File>;
+
     ghost stands = { λ _ _. None };
 
     ghost faults = { λ boards. boards.faults };
@@ -72,6 +79,16 @@ where
             Some(files) => board_at(self.alloc, files, path),
             None => Err(NotOpened::Failed),
         };
+        if let Err(NotOpened::Failed) = opened {
+            self.faults = self.faults.saturating_add(1);
+        }
+        opened
+    }
+
+    /// It fails if what has the name is no plain file, or one that another process has locked, and if no new one can be
+    /// made.
+    fn open_journal(&mut self, path: &str, now: Millis) -> Result<StdSink<R::File>, NotOpened> {
+        let opened = new_journal(self.alloc, &self.journals, path, now);
         if let Err(NotOpened::Failed) = opened {
             self.faults = self.faults.saturating_add(1);
         }

@@ -1,5 +1,5 @@
 //! The kept number of a node, in a file: the keeper that outlives the process. And a board in a file, on which a node
-//! says how it is, opened by its path; and a text that others replace, read whole.
+//! says how it is, opened by its path; a new file for its journal; and a text that others replace, read whole.
 //!
 //! It stands on xl_base, xl_io and xl_board. Its one contract: a call answers `Failed` only if the count rose in that
 //! call. Over a file that tells what it holds, a save that was answered with Ok leaves the number's text in place; one
@@ -10,6 +10,7 @@
 
 mod board;
 mod boards;
+mod journals;
 mod keeper;
 mod lockable;
 mod memory;

@@ -88,7 +88,7 @@ where
 }
 
 /// There is a plain file of this name. It fails if something else has the name.
-fn is_there<R: Files>(files: &R, path: &str) -> io::Result<bool> {
+pub(crate) fn is_there<R: Files>(files: &R, path: &str) -> io::Result<bool> {
     match fs::symlink_metadata(files, path) {
         Ok(what) if what.is_file() => Ok(true),
         Ok(_) => Err(io::Error::from(ErrorKind::InvalidData)),

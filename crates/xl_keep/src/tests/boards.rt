@@ -1,9 +1,10 @@
 use super::super::*;
 use super::{crosses, folder};
 use std::fs::{self, Files};
+use std::os::unix::fs::symlink;
 use std::test::Fail;
 use xl_board::{Board, Boards};
-use xl_io::Failed;
+use xl_io::{Failed, write_all};
 
 #[test]
 fn a_board_is_a_whole_text(rt: HostRuntime) -> Result<(), Fail> {
@@ -26,7 +27,7 @@ fn a_board_is_a_whole_text(rt: HostRuntime) -> Result<(), Fail> {
 fn a_path_is_opened_if_a_text_can_stand_there(rt: HostRuntime) -> Result<(), Fail> {
     let folder = folder(&rt, "xl_keep_boards")?;
     let path = format!(in rt.alloc(); "{folder}/xl.status")?;
-    let mut boards = SystemBoards::new(rt.alloc(), rt.clone()?);
+    let mut boards = SystemBoards::new(rt.alloc(), rt.clone()?, rt.clone()?);
     let mut board = boards.open(path.as_str()).map_err(|_| "not opened")?;
     assert!(rt; fs::read_to_string(&rt, path.as_str()).is_err());
     assert!(rt; board.show(b"one\n") == Ok(()));
@@ -39,7 +40,7 @@ fn a_path_is_opened_if_a_text_can_stand_there(rt: HostRuntime) -> Result<(), Fai
         format!(in rt.alloc(); "{folder}/")?,
         format!(in rt.alloc(); "{folder}")?,
     ] {
-        let mut boards = SystemBoards::new(rt.alloc(), rt.clone()?);
+        let mut boards = SystemBoards::new(rt.alloc(), rt.clone()?, rt.clone()?);
         assert!(rt; boards.open(path.as_str()).is_err());
         assert_eq!(rt; boards.faults(), 1);
     }
@@ -62,6 +63,56 @@ fn a_text_is_read_whole_or_not_at_all(rt: HostRuntime) -> Result<(), Fail> {
     fs::write(&rt, path, "eightees")?;
     assert!(rt; read_text(&rt, path, &mut room) == Err(Failed));
     assert!(rt; read_text(&rt, folder.as_str(), &mut room) == Err(Failed));
+    fs::remove_dir_all(&rt, folder.as_str())?;
+    Ok(())
+}
+
+#[test]
+fn a_journal_is_a_new_file_and_the_former_one_stays(rt: HostRuntime) -> Result<(), Fail> {
+    let folder = folder(&rt, "xl_keep_journals")?;
+    let path = format!(in rt.alloc(); "{folder}/xl.journal")?;
+    let mut boards = SystemBoards::new(rt.alloc(), rt.clone()?, rt.clone()?);
+    for (text, now) in [("one\n", 7), ("two\n", 8), ("three\n", 9)] {
+        let mut journal = boards
+            .open_journal(path.as_str(), now)
+            .map_err(|_| "not opened")?;
+        crosses(&journal);
+        assert_eq!(rt; fs::read_to_string(&rt, path.as_str())?.as_str(), "");
+        assert!(rt; write_all(&mut journal, text.as_bytes()) == Ok(()));
+        // One that is written stays in its place.
+        assert!(rt; boards.open_journal(path.as_str(), now + 10).is_err());
+        assert_eq!(rt; fs::read_to_string(&rt, path.as_str())?.as_str(), text);
+    }
+    for (text, moment) in [("one\n", 8), ("two\n", 9)] {
+        let aside = format!(in rt.alloc(); "{path}.{moment}")?;
+        assert_eq!(rt; fs::read_to_string(&rt, aside.as_str())?.as_str(), text);
+    }
+    assert_eq!(rt; boards.faults(), 3);
+    // The other name is taken.
+    assert!(rt; boards.open_journal(path.as_str(), 8).is_err());
+    assert_eq!(rt; fs::read_to_string(&rt, path.as_str())?.as_str(), "three\n");
+    fs::remove_dir_all(&rt, folder.as_str())?;
+    assert!(rt; boards.open_journal(path.as_str(), 10).is_err());
+    Ok(())
+}
+
+#[test]
+fn a_journal_is_no_link_and_no_folder(rt: HostRuntime) -> Result<(), Fail> {
+    let folder = folder(&rt, "xl_keep_no_journals")?;
+    let path = format!(in rt.alloc(); "{folder}/xl.journal")?;
+    let other = format!(in rt.alloc(); "{folder}/other")?;
+    fs::write(&rt, other.as_str(), "5\n")?;
+    let mut boards = SystemBoards::new(rt.alloc(), rt.clone()?, rt.clone()?);
+    for target in ["other", "not/there"] {
+        symlink(&rt, target, path.as_str())?;
+        assert!(rt; boards.open_journal(path.as_str(), 7).is_err());
+        fs::remove_file(&rt, path.as_str())?;
+    }
+    fs::create_dir_all(&rt, path.as_str())?;
+    assert!(rt; boards.open_journal(path.as_str(), 7).is_err());
+    fs::remove_dir_all(&rt, path.as_str())?;
+    assert_eq!(rt; fs::read_to_string(&rt, other.as_str())?.as_str(), "5\n");
+    assert_eq!(rt; boards.faults(), 3);
     fs::remove_dir_all(&rt, folder.as_str())?;
     Ok(())
 }
