@@ -1,5 +1,5 @@
 -- The settings that bytes hold at a moment, or why they hold none. Source: this project's own format; documents are those of TOML.
-use Rattle.std.specs.Prelude.{ℕ, nat_lt, Bool, true, false, List, [], length, Option, Some, None, Result, Ok, Err, if◌then◌else◌}
+use Rattle.std.specs.Prelude.{ℕ, nat_lt, Bool, true, List, [], length, Option, Some, None, Result, Ok, Err, if◌then◌else◌}
 use Rattle.std.specs.Option.{option_and_then}
 use Rattle.std.specs.Str.{is_utf8}
 use Rattle.toml.specs.Data.{Members, as_bool}
@@ -14,6 +14,7 @@ use Rattle.xl_settings.specs.declared.refusal.SettingsRefusal.{SettingsRefusal}
 use Rattle.xl_settings.specs.declared.refusal.SettingsRefusal.TheVariants.{Length, Text, Unknown, Known}
 use Rattle.xl_settings.specs.declared.settings.Settings.{Settings}
 use Rattle.xl_settings.specs.Doors.{submit_at}
+use Rattle.xl_settings.specs.Journals.{journal_at, journal_bytes_at, journal_file_at, journal_keys_at}
 use Rattle.xl_settings.specs.Keys.{least_unknown}
 use Rattle.xl_settings.specs.Lists.{members_at, stated_at, met_by, trust_of}
 use Rattle.xl_settings.specs.Paths.{rolls_path_at, status_at}
@@ -49,13 +50,6 @@ run_at table = or_default 0 (whole 0 greatest_run_ms) (at key.RunMs table)
 abbrev pub speak_at : Members → Option ℕ
 speak_at table = or_default usual_speak (whole usual_speak greatest_speak) (at key.Speak table)
 
-abbrev pub journal_at : Members → Option Bool
-journal_at table = or_default false as_bool (at key.Journal table)
-
--- whether a journal that is written holds keys and tags
-abbrev pub journal_keys_at : Members → Option Bool
-journal_keys_at table = or_default true as_bool (at key.JournalKeys table)
-
 abbrev pub submits_at : Members → Option (List TxId)
 submits_at table = or_default [] submits_in (at key.Submit table)
 
@@ -79,6 +73,8 @@ in_table table now =
     needs key.Roll (trust_of stated (taken_in table) threshold now) (λ trust.
     needs key.Journal (journal_at table) (λ journal.
     needs key.JournalKeys (journal_keys_at table) (λ with_keys.
+    needs key.JournalFile (journal_file_at table) (λ file.
+    needs key.JournalBytes (journal_bytes_at table) (λ bytes.
     needs key.Status (status_at table) (λ status.
     needs key.Rolls (rolls_path_at table) (λ looked_at.
     needs key.SubmitAt (submit_at table) (λ address.
@@ -96,10 +92,12 @@ in_table table now =
       publishing = trust.publishing;
       journal = journal;
       journal_keys = with_keys;
+      journal_file = file;
+      journal_bytes = bytes;
       status = status;
       rolls = looked_at;
       submit_at = address;
-    })))))))))))))))))))))
+    })))))))))))))))))))))))
 
 abbrev pub unless_unknown : Members → ℕ → Option (List ℕ) → Result Settings SettingsRefusal
 unless_unknown table now (Some text) = Err (Unknown text)

@@ -4,10 +4,11 @@ ghost use Rattle.toml.specs.View.{table_view};
 ghost use Rattle.xl_base.specs.Moments.{greatest_millis};
 ghost use Rattle.xl_settings.specs.Answers.{GivenMemory};
 ghost use Rattle.xl_settings.specs.Publishers.{threshold_at};
-ghost use Rattle.xl_settings.specs.Settings.{in_table, me_at, validating_at, limit_at, turns_at, heartbeat_at, run_at, speak_at, journal_at, journal_keys_at};
+ghost use Rattle.xl_settings.specs.Settings.{in_table, me_at, validating_at, limit_at, turns_at, heartbeat_at, run_at, speak_at};
 ghost use Rattle.xl_settings.specs.Values.{at, whole, or_default};
 
 use crate::door::submit_at;
+use crate::journal::{journal_at, journal_bytes_at, journal_file_at, journal_keys_at};
 use crate::members::{members_at, stated_at};
 use crate::path::{rolls_path_at, status_at};
 use crate::peering::peers_at;
@@ -61,6 +62,8 @@ pub fn settings_in(alloc: Global, table: &Table, now: Millis) -> Result<Settings
         publishing: trust.publishing,
         journal: journal_at(table).ok_or(KeyName::Journal)?,
         journal_keys: journal_keys_at(table).ok_or(KeyName::JournalKeys)?,
+        journal_file: journal_file_at(alloc, table)?.ok_or(KeyName::JournalFile)?,
+        journal_bytes: journal_bytes_at(table).ok_or(KeyName::JournalBytes)?,
         status: status_at(alloc, table)?.ok_or(KeyName::Status)?,
         rolls: rolls_path_at(alloc, table)?.ok_or(KeyName::Rolls)?,
         submit_at: submit_at(alloc, table)?.ok_or(KeyName::SubmitAt)?,
@@ -145,24 +148,6 @@ fn threshold_at(count: usize, table: &Table) -> Option<u32>
     match value_at(table, KeyName::Threshold.text()) {
         Some(value) => Some(whole(value, 1, count as u64)? as u32),
         None => Some(1),
-    }
-}
-
-fn journal_at(table: &Table) -> Option<bool>
-    ensures { result ≡ journal_at (table_view table.now) }
-{
-    match value_at(table, KeyName::Journal.text()) {
-        Some(value) => value.as_bool(),
-        None => Some(false),
-    }
-}
-
-fn journal_keys_at(table: &Table) -> Option<bool>
-    ensures { result ≡ journal_keys_at (table_view table.now) }
-{
-    match value_at(table, KeyName::JournalKeys.text()) {
-        Some(value) => value.as_bool(),
-        None => Some(true),
     }
 }
 
