@@ -1,5 +1,5 @@
 -- What is told where the next bytes come.
-use Rattle.std.proofs.Common.{◌≡◌, ◌+◌, ◌<◌, ◌≤◌, ◌==◌, ℕ, true, false, List, [], ◌∷◌, ◌++◌, length, take, drop, Option, Some, None, unwrap_or, is_some, refl, sym, ap, ◌∙◌, arith, append_assoc}
+use Rattle.std.proofs.Common.{◌≡◌, ◌+◌, ◌<◌, ◌≤◌, ◌==◌, ℕ, true, false, List, ◌∷◌, ◌++◌, length, take, drop, Option, Some, None, unwrap_or, is_some, refl, sym, ap, ◌∙◌, arith, append_assoc}
 use Rattle.std.proofs.lemmas.Bool.{false≢true}
 use Rattle.std.proofs.lemmas.List.{take_all, drop_all, length-take-le}
 use Rattle.std.proofs.lemmas.List.Folds.{list_any-append}
@@ -16,16 +16,12 @@ use Rattle.xl_lines.proofs.Cutting.{told_at-long}
 abbrev pub first_end : List ℕ → Option ℕ → ℕ
 first_end bytes newline = unwrap_or newline (length bytes)
 
-pub empty_list : (xs : List ℕ) → length xs ≡ 0 → xs ≡ []
-empty_list [] none = refl
-empty_list (x ∷ xs) none = absurd (omega arith)
-
 pub one_line-append : (line part : List ℕ) → IsOneLine line → IsOneLine part → IsOneLine (line ++ part)
 one_line-append line part a b = list_any-append (λ byte. byte == 10) line part ∙ rw (a, b) refl
 
-pub one_line-first : (bytes : List ℕ) (newline : Option ℕ) → FindsNewline bytes newline → IsOneLine (take (first_end bytes newline) bytes)
-one_line-first bytes None finds = rw (take_all (length bytes) bytes (omega arith)) finds
-one_line-first bytes (Some n) finds = finds.1
+pub one_line-first : (bytes : List ℕ) (newline : Option ℕ) (count : ℕ) → FindsNewline bytes newline → count ≡ first_end bytes newline → IsOneLine (take count bytes)
+one_line-first bytes None count finds k = rw (k, take_all (length bytes) bytes (omega arith)) finds
+one_line-first bytes (Some n) count finds k = rw k finds.1
 
 pub one_line-none : (bytes : List ℕ) (newline : Option ℕ) → FindsNewline bytes newline → is_some newline ≡ false → IsOneLine bytes
 one_line-none bytes None finds none = finds

@@ -1,7 +1,7 @@
 // Where a line ends.
 ghost use Rattle.std.specs.Prelude.{◌≡◌};
 ghost use Rattle.memchr.specs.Find.{IsFirstByte, is_byte};
-ghost use Rattle.xl_lines.specs.Lines.{without_return, before_newline};
+ghost use Rattle.xl_lines.specs.Lines.{without_return, before_newline, whole_line};
 
 use crate::Returns;
 use memchr::memchr;
@@ -31,4 +31,14 @@ pub fn before_newline(returns: Returns, line: &[u8]) -> &[u8]
         Returns::Dropped => without_return(line),
         Returns::Kept => line,
     }
+}
+
+/// The line that ends with these bytes, its newline left out. They stand in it already if it had begun.
+pub fn whole_line<'a>(line: &'a [u8], last: &'a [u8]) -> &'a [u8]
+    ensures { result.now ≡ whole_line line.now last.now }
+{
+    if line.is_empty() {
+        return last;
+    }
+    line
 }

@@ -1,17 +1,18 @@
-ghost use Rattle.std.specs.Prelude.{◌≡◌, ◌+◌, ◌<◌, ◌≤◌, ◌==◌, ◌↔◌, ℕ, List, [], ◌∷◌, ◌++◌, false, length, vec_len};
+ghost use Rattle.std.specs.Prelude.{◌≡◌, ◌+◌, ◌<◌, ◌≤◌, ◌==◌, ◌↔◌, ℕ, List, ◌++◌, false, length, vec_len};
 ghost use Rattle.std.specs.Prelude.{IfOk, OnOk, IsErrOf, IsTrue};
 ghost use Rattle.std.specs.List.{list_any};
 ghost use Rattle.xl_io.specs.Sinks.{GrewByFront, GrewByLess};
 ghost use Rattle.xl_lines.specs.Causes.{HasCause};
+ghost use Rattle.xl_lines.specs.Lines.{whole_line};
 ghost use Rattle.xl_lines.specs.Told.{told_of};
 ghost use Rattle.xl_lines.specs.Soon.{told_soon};
-ghost use Rattle.xl_lines.specs.Running.{Tells, TellsAll, told_at, left_after, left_unless_ended};
-ghost use Rattle.xl_lines.specs.Running.{Puts, PutsPart, soon_at};
+ghost use Rattle.xl_lines.specs.Running.{Tells, told_at, left_after};
+ghost use Rattle.xl_lines.specs.Running.{PutsPart, soon_at};
 ghost use Rattle.xl_lines.specs.Running.{TakesSome, bytes_to_come, FewerToCome};
 
-use crate::answer::{answer, close, refuse_long};
-use crate::ends::{before_newline, newline_in};
-use crate::{Fault, Limits, Machine, Next, Teller, Text, Verdict};
+use crate::answer::{answer, close, refuse};
+use crate::ends::{before_newline, newline_in, whole_line};
+use crate::{Fault, Limits, Machine, Next, Overrun, Teller, Text, Verdict};
 use std::alloc::Global;
 use xl_base::OutOfMemory;
 use xl_io::Sink;
@@ -77,104 +78,20 @@ impl<M: Machine> Lines<M> {
         Ok(())
     }
 
-    /// Hands the line to the machine, now that its newline has come.
-    fn end_line<O: Sink>(&mut self, output: &mut O) -> Result<Next, Fault>
-        ensures limits { self.new.limits ≡ self.old.limits }
-        ensures next { IfOk result (λ next. next ≡ Next.Line →
-            (self.new.left + 1 ≡ self.old.left) × (self.new.line.items ≡ [])) }
-        ensures ok { IfOk result (λ next. (rest : List ℕ) → Tells (O.held output.old) (O.held output.new)
-            (⟦<Lines<M> as Teller>⟧.tells self.old (10 ∷ rest))
-            (left_unless_ended next (⟦<Lines<M> as Teller>⟧.tells self.new rest))) }
-        ensures soon { IfOk result (λ next. next ≡ Next.Line → Puts (O.held output.old) (O.held output.new)
-            (λ rest. ⟦<Lines<M> as Teller>⟧.soon self.old (10 ∷ rest)) (⟦<Lines<M> as Teller>⟧.soon self.new)) }
-        ensures front { (rest : List ℕ) → GrewByFront (O.held output.old) (O.held output.new)
-            (⟦<Lines<M> as Teller>⟧.tells self.old (10 ∷ rest)).text }
-        ensures less { IsErrOf result Fault.Write → (rest : List ℕ) → GrewByLess (O.held output.old) (O.held output.new)
-            (⟦<Lines<M> as Teller>⟧.tells self.old (10 ∷ rest)).text }
-        ensures cause { HasCause (O.faults output.old) (O.faults output.new) result }
-    {
-        let line = before_newline(self.limits.returns, &self.line);
-        match answer(
-            &mut self.machine,
-            output,
-            self.left,
-            line,
-            true,
-            &mut self.text,
-        )? {
-            Next::Line => {
-                self.line.clear();
-                self.left -= 1;
-                Ok(Next::Line)
-            }
-            Next::Refused => Ok(Next::Refused),
-            Next::Found => Ok(Next::Found),
-        }
-    }
-
-    /// Hands a line to the machine that stands whole in the piece, before its newline.
-    fn end_whole<O: Sink>(&mut self, output: &mut O, line: &[u8]) -> Result<Next, Fault>
-        requires begun { self.old.line.items ≡ [] }
-        requires one_line { list_any (λ byte. byte == 10) line.now ≡ false }
-        requires short { length line.now ≤ self.old.limits.bytes }
-        ensures limits { self.new.limits ≡ self.old.limits }
-        ensures next { IfOk result (λ next. next ≡ Next.Line →
-            (self.new.left + 1 ≡ self.old.left) × (self.new.line.items ≡ [])) }
-        ensures ok { IfOk result (λ next. (rest : List ℕ) → Tells (O.held output.old) (O.held output.new)
-            (⟦<Lines<M> as Teller>⟧.tells self.old (line.now ++ (10 ∷ rest)))
-            (left_unless_ended next (⟦<Lines<M> as Teller>⟧.tells self.new rest))) }
-        ensures soon { IfOk result (λ next. next ≡ Next.Line → Puts (O.held output.old) (O.held output.new)
-            (λ rest. ⟦<Lines<M> as Teller>⟧.soon self.old (line.now ++ (10 ∷ rest)))
-            (⟦<Lines<M> as Teller>⟧.soon self.new)) }
-        ensures front { (rest : List ℕ) → GrewByFront (O.held output.old) (O.held output.new)
-            (⟦<Lines<M> as Teller>⟧.tells self.old (line.now ++ (10 ∷ rest))).text }
-        ensures less { IsErrOf result Fault.Write → (rest : List ℕ) → GrewByLess (O.held output.old) (O.held output.new)
-            (⟦<Lines<M> as Teller>⟧.tells self.old (line.now ++ (10 ∷ rest))).text }
-        ensures cause { HasCause (O.faults output.old) (O.faults output.new) result }
-    {
-        let handed = before_newline(self.limits.returns, line);
-        match answer(
-            &mut self.machine,
-            output,
-            self.left,
-            handed,
-            true,
-            &mut self.text,
-        )? {
-            Next::Line => {
-                self.left -= 1;
-                Ok(Next::Line)
-            }
-            Next::Refused => Ok(Next::Refused),
-            Next::Found => Ok(Next::Found),
-        }
-    }
-
-    /// Ends the line with these bytes, before its newline, and hands it to the machine. If none had begun it isn't
+    /// Adds the last bytes of a line to it, without its newline, if it had begun. Else they are all of it, and aren't
     /// copied.
-    fn end_with<O: Sink>(&mut self, output: &mut O, bytes: &[u8]) -> Result<Next, Fault>
+    fn join(&mut self, bytes: &[u8]) -> Result<(), OutOfMemory>
         requires one_line { list_any (λ byte. byte == 10) bytes.now ≡ false }
         requires short { vec_len self.old.line + length bytes.now ≤ self.old.limits.bytes }
+        ensures ok { OnOk result (whole_line self.new.line.items bytes.now ≡ self.old.line.items ++ bytes.now) }
         ensures limits { self.new.limits ≡ self.old.limits }
-        ensures next { IfOk result (λ next. next ≡ Next.Line →
-            (self.new.left + 1 ≡ self.old.left) × (self.new.line.items ≡ [])) }
-        ensures ok { IfOk result (λ next. (rest : List ℕ) → Tells (O.held output.old) (O.held output.new)
-            (⟦<Lines<M> as Teller>⟧.tells self.old (bytes.now ++ (10 ∷ rest)))
-            (left_unless_ended next (⟦<Lines<M> as Teller>⟧.tells self.new rest))) }
-        ensures soon { IfOk result (λ next. next ≡ Next.Line → Puts (O.held output.old) (O.held output.new)
-            (λ rest. ⟦<Lines<M> as Teller>⟧.soon self.old (bytes.now ++ (10 ∷ rest)))
-            (⟦<Lines<M> as Teller>⟧.soon self.new)) }
-        ensures front { (rest : List ℕ) → GrewByFront (O.held output.old) (O.held output.new)
-            (⟦<Lines<M> as Teller>⟧.tells self.old (bytes.now ++ (10 ∷ rest))).text }
-        ensures less { IsErrOf result Fault.Write → (rest : List ℕ) → GrewByLess (O.held output.old) (O.held output.new)
-            (⟦<Lines<M> as Teller>⟧.tells self.old (bytes.now ++ (10 ∷ rest))).text }
-        ensures cause { HasCause (O.faults output.old) (O.faults output.new) result }
+        ensures left { self.new.left ≡ self.old.left }
+        ensures machine { self.new.machine ≡ self.old.machine }
     {
         if self.line.is_empty() {
-            return self.end_whole(output, bytes);
+            return Ok(());
         }
-        self.put(bytes)?;
-        self.end_line(output)
+        self.put(bytes)
     }
 
     /// Takes the next bytes up to the first newline, and with it.
@@ -199,15 +116,29 @@ impl<M: Machine> Lines<M> {
         let newline = newline_in(bytes);
         let count = newline.unwrap_or(bytes.len());
         if self.is_long_with(count) {
-            refuse_long(&mut self.machine, output, &mut self.text)?;
+            refuse(&mut self.machine, output, Overrun::LongLine, &mut self.text)?;
             return Ok(Part::Refused);
         }
         if newline.is_none() {
             self.put(bytes)?;
             return Ok(Part::Taken(count));
         }
-        match self.end_with(output, &bytes[..count])? {
-            Next::Line => Ok(Part::Taken(count + 1)),
+        let last = &bytes[..count];
+        self.join(last)?;
+        let line = before_newline(self.limits.returns, whole_line(&self.line, last));
+        match answer(
+            &mut self.machine,
+            output,
+            self.left,
+            line,
+            true,
+            &mut self.text,
+        )? {
+            Next::Line => {
+                self.line.clear();
+                self.left -= 1;
+                Ok(Part::Taken(count + 1))
+            }
             Next::Refused => Ok(Part::Refused),
             Next::Found => Ok(Part::Found),
         }

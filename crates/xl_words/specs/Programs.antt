@@ -34,8 +34,11 @@ abbrev pub first_commands : App
 first_commands = with_subcommand (with_subcommand (with_subcommand (with_subcommand (with_subcommand bare (plain (codes
     "replay"))) (plain (codes "node"))) (plain (codes "show"))) (plain (codes "lists"))) (plain (codes "merge"))
 
+-- the program with each that has no argument
+abbrev pub plain_commands : App
+plain_commands = with_subcommand (with_subcommand (with_subcommand (with_subcommand (with_subcommand first_commands (plain
+    (codes "audit"))) (plain (codes "blame"))) (plain (codes "flags"))) (plain (codes "negative"))) (plain (codes "tell"))
+
 -- the program with all of them
 abbrev pub program : App
-program = with_subcommand (with_subcommand (with_subcommand (with_subcommand (with_subcommand (with_subcommand
-    first_commands (plain (codes "audit"))) (plain (codes "blame"))) (plain (codes "flags"))) (plain (codes "negative")))
-    (plain (codes "tell"))) with_rounds
+program = with_subcommand plain_commands with_rounds

@@ -1,7 +1,7 @@
 // The program as `clap` sees it: its commands, and that it has help and a version.
 ghost use Rattle.std.specs.Prelude.{◌≡◌, IfOk, false};
 ghost use Rattle.clap.specs.Words.{app_of, rule_of};
-ghost use Rattle.xl_words.specs.Programs.{bare, first_commands, program, rounds_rule};
+ghost use Rattle.xl_words.specs.Programs.{bare, first_commands, plain_commands, program, rounds_rule};
 
 use clap::{Arg, ArgAction, Command};
 use std::alloc::{AllocError, Global};
@@ -39,15 +39,23 @@ fn first_commands<'a>(alloc: Global) -> Result<Command<'a>, AllocError>
         .subcommand(Command::new(alloc, "merge"))
 }
 
-pub fn program<'a>(alloc: Global) -> Result<Command<'a>, AllocError>
-    ensures { IfOk result (λ command. app_of command ≡ program) }
+/// The program with each command that has no argument.
+fn plain_commands<'a>(alloc: Global) -> Result<Command<'a>, AllocError>
+    ensures { IfOk result (λ command. app_of command ≡ plain_commands) }
 {
-    let rounds = Command::new(alloc, "gen").arg(rounds_argument(alloc))?;
     first_commands(alloc)?
         .subcommand(Command::new(alloc, "audit"))?
         .subcommand(Command::new(alloc, "blame"))?
         .subcommand(Command::new(alloc, "flags"))?
         .subcommand(Command::new(alloc, "negative"))?
-        .subcommand(Command::new(alloc, "tell"))?
-        .subcommand(rounds)
+        .subcommand(Command::new(alloc, "tell"))
+}
+
+/// The program with all of its commands.
+pub fn program<'a>(alloc: Global) -> Result<Command<'a>, AllocError>
+    ensures { IfOk result (λ command. app_of command ≡ program) }
+{
+    let plain = plain_commands(alloc)?;
+    let rounds = Command::new(alloc, "gen").arg(rounds_argument(alloc))?;
+    plain.subcommand(rounds)
 }

@@ -1,5 +1,5 @@
 -- what is told of all bytes is what is written so far and what is told of those to come, piece by piece
-use Rattle.std.proofs.Common.{◌≤◌, ◌∙◌, length, take, arith, subst, refl}
+use Rattle.std.proofs.Common.{◌∙◌, take, arith, subst, refl}
 use Rattle.std.proofs.lemmas.List.{length-take}
 use Rattle.xl_lines.specs.Soon.{WasRead}
 use Rattle.xl_lines.proofs.Soon.{runs_soon_none, runs_soon_more, runs_soon_all, runs_unended, stops_behind, stops_here}

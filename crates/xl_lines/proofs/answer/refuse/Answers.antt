@@ -1,6 +1,6 @@
 use Rattle.std.proofs.Common.{subst, ◌∙◌}
 use Rattle.xl_io.specs.Sinks.{GrewByLess}
-use Rattle.xl_lines.proofs.answer.refuse_long.Goals as goal
+use Rattle.xl_lines.proofs.answer.refuse.Goals as goal
 
 pub returns-in_err-write_all-clause-less : goal.returns-in_err-write_all-clause-less
 returns-in_err-write_all-clause-less g c is =
