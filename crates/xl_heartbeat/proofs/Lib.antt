@@ -4,3 +4,4 @@ pub mod SameLists
 pub mod Firsts
 pub mod Telling
 pub mod Leading
+pub mod Recording

@@ -6,4 +6,5 @@ pub mod Looks
 pub mod Beats
 pub mod Statuses
 pub mod Bulletins
+pub mod Recording
 pub mod Going

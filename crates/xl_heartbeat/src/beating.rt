@@ -3,15 +3,16 @@ ghost use Rattle.std.specs.declared.option.Option.{Option};
 ghost use Rattle.xl_turns.specs.declared.view.Knowledge.{Knowledge};
 ghost use Rattle.xl_turns.specs.Passes.{known};
 ghost use Rattle.xl_store.specs.declared.entry.Entry.{Entry};
-ghost use Rattle.xl_store.specs.Stores.{start_of, turns_of, IsOf};
+ghost use Rattle.xl_store.specs.Stores.{start_of, turns_of, retention_of, IsOf};
 ghost use Rattle.xl_heartbeat.specs.Outputs.{Output, output};
 ghost use Rattle.xl_heartbeat.specs.declared.bulletin.Bulletin.{Bulletin as TheBulletin};
 ghost use Rattle.xl_heartbeat.specs.Bulletins.{ToldIf};
+ghost use Rattle.xl_heartbeat.specs.Recording.{Recorded};
 ghost use Rattle.xl_heartbeat.specs.Beats.{Heartbeat};
 ghost use Rattle.xl_heartbeat.specs.Beats.Phase.{Beats};
 ghost use Rattle.xl_heartbeat.specs.Going.{Beating, Follows, Stops};
 
-use crate::Bulletin;
+use crate::Outlets;
 use crate::bulletin::note_look;
 use crate::ends::{BeatEnd, Ending, Stopping, after_reports, ending_of};
 use crate::looking::look_at;
@@ -25,23 +26,23 @@ use xl_board::Board;
 use xl_io::{Keeper, Sink};
 use xl_ledger::Branch;
 use xl_links::Clock;
-use xl_store::{Pass, Store, StoreEnd};
+use xl_store::{Pass, Recorder, Store, StoreEnd};
 
 /// How long to wait before the store is told again that the node is to stop, in milliseconds.
 const PAUSE: u32 = 1000;
 
 /// What a heartbeat leaves.
 #[derive(Drop)]
-pub struct BeatLeft<D> {
+pub struct BeatLeft<D, R> {
     pub end: BeatEnd,
-    pub bulletin: Option<Bulletin<D>>,
+    pub outlets: Outlets<D, R>,
 }
 
-/// What goes along with the beats: the list that was set last and what makes the next one, and the bulletin.
+/// What goes along with the beats: the list that was set last and what makes the next one, and the outlets.
 #[derive(Drop)]
-struct Progress<D> {
+struct Progress<D, R> {
     standing: Standing,
-    bulletin: Option<Bulletin<D>>,
+    outlets: Outlets<D, R>,
 }
 
 /// Beats until the time of the run is over, and then tells the store that the node is to stop.
@@ -53,7 +54,8 @@ struct Progress<D> {
 /// told to stop whatever ended them, and again a second later if memory ran out; if it is full it isn't told.
 ///
 /// On the bulletin, if there is one, it tells each ten seconds how the node is. That takes no turn more: the core is
-/// looked at in the turn in which reports are taken.
+/// looked at in the turn in which reports are taken. In that turn a store may hand on entries of its journal: the
+/// recorder, if there is one, has them before the lines of the reports are written.
 pub fn beat<
     W: Wait + Files,
     B: Branch + Drop,
@@ -61,37 +63,41 @@ pub fn beat<
     O: Sink,
     C: Clock,
     D: Board + Drop,
+    R: Recorder + Drop,
 >(
     rt: &W,
     store: &Store<B, K>,
     clock: &C,
     sink: &mut O,
     pulse: &Pulse,
-    bulletin: Option<Bulletin<D>>,
+    outlets: Outlets<D, R>,
     pass: &mut Pass,
-) -> BeatLeft<D>
+) -> BeatLeft<D, R>
     requires pass { IsOf store.now pass.old }
     ensures pass { IsOf store.now pass.new }
     ensures heartbeat { Heartbeat (start_of store.now) (turns_of store.now) (C.may_give clock.now) pulse.now
         (known pass.old) (output (O.held sink.old) (O.faults sink.old)) result.end
         (known pass.new) (output (O.held sink.new) (O.faults sink.new)) }
     // What the board was handed is the texts of how the core was, at places of the history, and nothing else.
-    ensures told { ToldIf D.show_gives (start_of store.now) bulletin (known pass.new).seen result.bulletin }
+    ensures told { ToldIf D.show_gives (start_of store.now) outlets.bulletin (known pass.new).seen result.outlets.bulletin }
+    // What the recorder was handed is what the entries of these calls hand on, and nothing else.
+    ensures recorded { Recorded R.records (retention_of store.now) (start_of store.now)
+        (known pass.old) (known pass.new) outlets.recorder result.outlets.recorder }
 {
     let mut progress = Progress {
         standing: Standing::of(pulse),
-        bulletin,
+        outlets,
     };
     for _ in rt.forever() {
         if let Some(run) = beat_once(rt, store, clock, sink, pulse, &mut progress, pass) {
             let stop = tell_to_stop(rt, store, clock, pass);
             let Progress {
                 standing: _,
-                bulletin,
+                outlets,
             } = progress;
             return BeatLeft {
                 end: BeatEnd { run, stop },
-                bulletin,
+                outlets,
             };
         }
     }
@@ -107,13 +113,14 @@ fn beat_once<
     O: Sink,
     C: Clock,
     D: Board + Drop,
+    R: Recorder + Drop,
 >(
     rt: &W,
     store: &Store<B, K>,
     clock: &C,
     sink: &mut O,
     pulse: &Pulse,
-    progress: &mut Progress<D>,
+    progress: &mut Progress<D, R>,
     pass: &mut Pass,
 ) -> Option<Ending>
     requires pass { IsOf store.now pass.old }
@@ -124,13 +131,15 @@ fn beat_once<
         → Follows (start_of store.now) (turns_of store.now) (C.may_give clock.now) pulse.now k o
         progress.new.standing result (known pass.new) (output (O.held sink.new) (O.faults sink.new)) }
     ensures told { (first : Option (TheBulletin D))
-        → ToldIf D.show_gives (start_of store.now) first (known pass.old).seen progress.old.bulletin
-        → ToldIf D.show_gives (start_of store.now) first (known pass.new).seen progress.new.bulletin }
+        → ToldIf D.show_gives (start_of store.now) first (known pass.old).seen progress.old.outlets.bulletin
+        → ToldIf D.show_gives (start_of store.now) first (known pass.new).seen progress.new.outlets.bulletin }
+    ensures recorded { Recorded R.records (retention_of store.now) (start_of store.now)
+        (known pass.old) (known pass.new) progress.old.outlets.recorder progress.new.outlets.recorder }
 {
     clock.wait(pulse.timing.every);
     let now = clock.now();
     let look = look_at(rt, &pulse.rolls, &mut progress.standing, now);
-    note_look(&mut progress.bulletin, look);
+    note_look(&mut progress.outlets.bulletin, look);
     match relist_at(rt, store, &mut progress.standing, now, pass) {
         Ok(()) => {}
         Err(end) => return Some(ending_of(end)),
@@ -139,7 +148,7 @@ fn beat_once<
         Ok(_) => {}
         Err(end) => return Some(ending_of(end)),
     }
-    let taken = take_and_tell(rt, store, sink, &mut progress.bulletin, now, pass);
+    let taken = take_and_tell(rt, store, sink, &mut progress.outlets, now, pass);
     after_reports(taken, pulse.timing.is_over(now))
 }
 

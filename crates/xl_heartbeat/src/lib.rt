@@ -6,13 +6,14 @@
 //! reports are taken and a line written for each. Beats come until the time of the run is over, a write fails, memory
 //! runs out or the store is full; then the heartbeat tells the store that the node is to stop. When all workers have
 //! ended, the last reports are taken and written. On a bulletin, if there is one, a heartbeat tells each ten seconds how
-//! the node is.
+//! the node is. What a store hands on of its journal when reports are taken goes to a recorder, if there is one, before
+//! their lines are written.
 //!
 //! It stands on the store of xl_store, the publishers of xl_publish, the clock of xl_links, the sinks of xl_io, the
 //! boards of xl_board, the files of xl_keep and the texts of xl_status. Its one contract: the calls, which stand in the
 //! store's history at the places that the pass gained, are those of beats and of one stop. What was written is the lines
 //! of the reports that they handed out, and each end has its cause. What was told is how the core was at places of that
-//! history.
+//! history, and what was recorded is what the entries at those places hand on.
 #![tactic(auto)]
 
 mod beating;
@@ -20,7 +21,9 @@ mod bulletin;
 mod ends;
 mod lines;
 mod looking;
+mod outlets;
 mod pulse;
+mod recording;
 mod relisting;
 mod reporting;
 mod rolls_text;
@@ -32,6 +35,7 @@ mod timing;
 pub use beating::{BeatLeft, beat};
 pub use bulletin::Bulletin;
 pub use ends::{BeatEnd, Ending, Stopping};
+pub use outlets::Outlets;
 pub use pulse::Pulse;
 pub use reporting::take_reports;
 pub use rolls_text::RollsText;

@@ -8,3 +8,6 @@ pub mod Porters
 pub mod Shared
 pub mod Outcomes
 pub mod Lives
+pub mod Merges
+pub mod Quiet
+pub mod Recordings

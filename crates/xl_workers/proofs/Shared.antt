@@ -117,7 +117,7 @@ module _ {L : Type 0} where
       let m = le-max_right k.drawn (knows w).drawn in
       (omega (arith, e, m, le), joined_each (joined k (knows w)) ws n le)
 
-  seen_more : (seen history : List Entry) (ws : List (Worker L)) → IsPrefix seen history
+  pub seen_more : (seen history : List Entry) (ws : List (Worker L)) → IsPrefix seen history
       → AllByRecursion (HasSeen seen) ws → AllByRecursion (HasSeen history) ws
   seen_more seen history [] p h = tt
   seen_more seen history (w ∷ ws) p h =
@@ -154,7 +154,7 @@ same_part start turns may doors (Some door) None old new did = absurd did
 same_part start turns may doors (Some door) (Some after) old new did = did.1.attending.made.share
 
 module _ {B K L D : Type 0} (store : Store B K) (may : ℕ → Bool) (shows : L → Wire) (doors : D → Doorway) where
-  pairs_served : (old new : List (Worker L)) → HaveServed store may shows old new → length new ≡ length old
+  pub pairs_served : (old new : List (Worker L)) → HaveServed store may shows old new → length new ≡ length old
       → Paired (HasServed store may shows) old new
   pairs_served old new h long = paired_at (HasServed store may shows) old new long h
 
@@ -205,7 +205,7 @@ module _ {B K L D : Type 0} (store : Store B K) (may : ℕ → Bool) (shows : L 
         let f = j.all.shares in
         omega (arith, sums, a, b, c, d, e, f, g)
 
-    pass_mine : (known pass).mine
+    pub pass_mine : (known pass).mine
         ≡ merge_all (merge (merge (known first).mine (known beaten).mine) (known kept.pass).mine)
         (map (λ (w : Worker L). (known w.pass).mine) new)
     pass_mine =

@@ -14,7 +14,10 @@ use Rattle.xl_core.specs.Core.{Core}
 use Rattle.xl_store.specs.declared.entry.Entry.{Entry}
 use Rattle.xl_store.specs.declared.store.StoreEnd.{StoreEnd}
 use Rattle.xl_store.specs.declared.store.StoreEnd.TheVariants as refused
+use Rattle.xl_store.specs.declared.retention.Batch.{Batch}
+use Rattle.xl_store.specs.declared.retention.Retention.{Retention}
 use Rattle.xl_store.specs.Calls.{Call, Made}
+use Rattle.xl_store.specs.Recording.{RecordsIf, all_batches}
 use Rattle.xl_heartbeat.specs.declared.pulse.Pulse.{Pulse}
 use Rattle.xl_heartbeat.specs.declared.ends.BeatEnd.{BeatEnd}
 use Rattle.xl_heartbeat.specs.declared.ends.Ending.{Ending}
@@ -90,6 +93,14 @@ pub record Lived (s : Setting) (d : Doing) (end : RunEnd) (new : Knowledge Entry
   pub share : new.share ≡ all_shares
   pub run : (history : List Entry) → Closes s.turns new history → new.mine ≡ all_below (length history)
       → NodeRun s d end history
+
+-- the recorder, if there is one, was handed all that such a store hands on over the history with which who has this pass
+-- closes it
+abbrev pub RecordsAll : {R : Type 0} → (R → Batch → R → Type 0) → Retention → ℕ → Knowledge Entry → Option R → Option R
+    → Type 0
+RecordsAll records retention turns k old new =
+    (history : List Entry) → Closes turns k history → k.mine ≡ all_below (length history)
+    → RecordsIf records (all_batches retention history) old new
 
 -- how a run ends that has no turn for a submit
 abbrev pub end_of : StoreEnd → RunEnd

@@ -9,7 +9,8 @@
 //! the hub of xl_links.
 //! Its one contract: the journal of the closed store is a legal history of the core that was handed in. Each place of
 //! it is one of the submits, of the heartbeat, of the porter, of the one worker of a member, or of the last reports. The
-//! output is the lines of what the reports handed out, and each end has its cause.
+//! output is the lines of what the reports handed out, and each end has its cause. What the store handed on of its journal
+//! was recorded, all of it and in order.
 #![tactic(auto)]
 
 mod ends;

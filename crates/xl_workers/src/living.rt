@@ -3,13 +3,14 @@ ghost use Rattle.std.specs.List.{AllByRecursion, IsDistinct};
 ghost use Rattle.xl_tags.specs.Rings.{key_of};
 ghost use Rattle.xl_turns.specs.Passes.{known};
 ghost use Rattle.xl_turns.specs.Knowing.{newcomer};
-ghost use Rattle.xl_store.specs.Stores.{start_of, turns_of, IsOf};
+ghost use Rattle.xl_store.specs.Stores.{start_of, turns_of, retention_of, IsOf};
 ghost use Rattle.xl_heartbeat.specs.Bulletins.{ToldIf};
 ghost use Rattle.xl_heartbeat.specs.Outputs.{output};
+ghost use Rattle.xl_heartbeat.specs.Recording.{Recorded};
 ghost use Rattle.xl_workers.specs.Linking.{contact_of, target_of, hub_seen};
 ghost use Rattle.xl_workers.specs.Sharing.{setting};
 ghost use Rattle.xl_workers.specs.Runs.{doing_of};
-ghost use Rattle.xl_workers.specs.Working.{TookLast, Lived, end_of};
+ghost use Rattle.xl_workers.specs.Working.{TookLast, Lived, RecordsAll, end_of};
 
 use crate::ends::RunEnd;
 use crate::hiring::hire_all;
@@ -24,19 +25,20 @@ use std::sync::Wait;
 use std::thread::Threads;
 use xl_base::Bytes;
 use xl_board::Board;
-use xl_heartbeat::{Bulletin, Ending, take_reports};
+use xl_heartbeat::{Ending, Outlets, take_reports};
 use xl_io::{Discard, Keeper, Sink};
 use xl_ledger::Branch;
 use xl_links::{Clock, Gate, Hub};
 use xl_peers::Host;
-use xl_store::{Pass, Store, StoreEnd};
+use xl_store::{Pass, Recorder, Store, StoreEnd};
 
 /// Takes the last reports, and writes their lines. If a write's fault ended the heartbeat they aren't written: what
-/// the output holds would be no front of all lines then.
-fn take_last<W: Wait, B: Branch + Drop, K: Keeper + Drop, O: Sink>(
+/// the output holds would be no front of all lines then. What the store hands on is recorded all the same.
+fn take_last<W: Wait, B: Branch + Drop, K: Keeper + Drop, O: Sink, R: Recorder>(
     rt: &W,
     store: &Store<B, K>,
     sink: &mut O,
+    recorder: &mut Option<R>,
     pass: &mut Pass,
     beats: Ending,
 ) -> Ending
@@ -45,11 +47,13 @@ fn take_last<W: Wait, B: Branch + Drop, K: Keeper + Drop, O: Sink>(
     ensures last { TookLast (start_of store.now) (turns_of store.now) beats
         (known pass.old) (output (O.held sink.old) (O.faults sink.old)) result
         (known pass.new) (output (O.held sink.new) (O.faults sink.new)) }
+    ensures recorded { Recorded R.records (retention_of store.now) (start_of store.now)
+        (known pass.old) (known pass.new) recorder.old recorder.new }
 {
     match beats {
-        Ending::WriteFault => take_reports(rt, store, &mut Discard, pass),
+        Ending::WriteFault => take_reports(rt, store, &mut Discard, recorder, pass),
         Ending::Done | Ending::OutOfMemory | Ending::StoreFull(_) => take_reports(
-            rt, store, sink, pass,
+            rt, store, sink, recorder, pass,
         ),
     }
 }
@@ -83,6 +87,7 @@ pub(crate) fn live<
     C: Clock + Sync,
     O: Sink + Send,
     D: Board + Drop + Send,
+    R: Recorder + Drop + Send,
 >(
     host: &Host<'_, W, G, C>,
     store: &Store<B, K>,
@@ -90,7 +95,7 @@ pub(crate) fn live<
     plan: Plan,
     hub: &mut H,
     sink: &mut O,
-    bulletin: &mut Option<Bulletin<D>>,
+    outlets: &mut Outlets<D, R>,
 ) -> (RunEnd, Pass)
     requires pass { IsOf store.now pass }
     requires new { known pass ≡ newcomer }
@@ -107,11 +112,13 @@ pub(crate) fn live<
         (hub_seen (H.faults hub.old) (H.asked hub.old)) (hub_seen (H.faults hub.new) (H.asked hub.new))
         (output (O.held sink.old) (O.faults sink.old)) (output (O.held sink.new) (O.faults sink.new)))
         result.0 (known result.1) }
-    ensures told { ToldIf D.show_gives (start_of store.now) bulletin.old (known result.1).seen bulletin.new }
+    ensures told { ToldIf D.show_gives (start_of store.now) outlets.old.bulletin (known result.1).seen outlets.new.bulletin }
+    ensures recorded { RecordsAll R.records (retention_of store.now) (turns_of store.now) (known result.1)
+        outlets.old.recorder outlets.new.recorder }
 {
     let Plan {
         turns: _,
-        keeps: _,
+        retention: _,
         submits,
         contacts,
         door,
@@ -138,9 +145,16 @@ pub(crate) fn live<
     };
     let (first, mut heart) = store.split(pass);
     let (first, mut crew) = hire_all(store, first, peers, door, room);
-    let beats = run(host, store, &mut heart, &mut crew, &pulse, sink, bulletin);
+    let beats = run(host, store, &mut heart, &mut crew, &pulse, sink, outlets);
     let one = store.join(first, heart);
     let mut pass = join_crew(store, one, crew);
-    let last = take_last(host.rt, store, sink, &mut pass, beats.run);
+    let last = take_last(
+        host.rt,
+        store,
+        sink,
+        &mut outlets.recorder,
+        &mut pass,
+        beats.run,
+    );
     (RunEnd::Ran { beats, last }, pass)
 }

@@ -1,14 +1,15 @@
 use xl_base::{Bytes, NodeNo, TxId};
 use xl_heartbeat::Pulse;
 use xl_links::Way;
+use xl_store::Retention;
 
 /// What a run is to do.
 #[derive(Drop)]
 pub struct Plan {
     /// How many turns the store has in all, 1 to 2^62.
     pub turns: u64,
-    /// Whether the store keeps its entries.
-    pub keeps: bool,
+    /// Which entries the store keeps.
+    pub retention: Retention,
     /// The ids that are submitted first, in order.
     pub submits: Vec<TxId>,
     /// The members that are served, each once. They are peers of the core.

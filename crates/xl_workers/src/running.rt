@@ -7,8 +7,9 @@ ghost use Rattle.xl_turns.specs.Passes.{known};
 ghost use Rattle.xl_core.specs.CoreLives.{core_after};
 ghost use Rattle.xl_store.specs.Entries.{Leads, life_of};
 ghost use Rattle.xl_store.specs.Closing.{KeepsAll};
-ghost use Rattle.xl_store.specs.Pages.{entries_if};
-ghost use Rattle.xl_store.specs.Stores.{start_of, keeper_of, turns_of, keeps_of, IsOf};
+ghost use Rattle.xl_store.specs.Recording.{RecordsIf, all_batches};
+ghost use Rattle.xl_store.specs.Retentions.{left_of};
+ghost use Rattle.xl_store.specs.Stores.{start_of, keeper_of, turns_of, retention_of, IsOf};
 ghost use Rattle.xl_heartbeat.specs.Bulletins.{ToldIf};
 ghost use Rattle.xl_heartbeat.specs.Outputs.{output};
 ghost use Rattle.xl_workers.specs.Linking.{contact_of, hub_seen, target_of};
@@ -24,12 +25,12 @@ use std::sync::Wait;
 use std::thread::Threads;
 use xl_board::Board;
 use xl_core::Core;
-use xl_heartbeat::Bulletin;
+use xl_heartbeat::Outlets;
 use xl_io::{Keeper, Sink};
 use xl_ledger::Branch;
 use xl_links::{Clock, Gate, Hub};
 use xl_peers::Host;
-use xl_store::{Closed, Pass, Spared, Store};
+use xl_store::{Closed, Pass, Recorder, Retention, Spared, Store};
 
 /// What a run leaves.
 #[derive(Drop)]
@@ -41,6 +42,7 @@ pub struct Ran<B: Branch, K> {
 /// Runs a validator over a core and its keeper. It submits the plan's ids, opens a link to each of its members and the
 /// door, if the plan has one, and serves all of these side by side with the heartbeat until that ends the run. The
 /// heartbeat tells on the bulletin, if there is one, how the node is. Then it takes the last reports and closes the store.
+/// What the store hands on of its journal when reports are taken goes to the recorder, if there is one.
 ///
 /// Before all that it starts a thread for each member, one for the door if the plan has one, and one more, which end at
 /// once. A run that has fewer would serve some members alone, and not say so. The members are peers of the core, and none
@@ -55,6 +57,7 @@ pub fn node<
     C: Clock + Sync,
     O: Sink + Send,
     D: Board + Drop + Send,
+    R: Recorder + Drop + Send,
 >(
     host: &Host<'_, W, G, C>,
     core: Core<B>,
@@ -62,7 +65,7 @@ pub fn node<
     plan: Plan,
     hub: &mut H,
     sink: &mut O,
-    bulletin: &mut Option<Bulletin<D>>,
+    outlets: &mut Outlets<D, R>,
 ) -> Result<Ran<B, K>, Spared<B, K>>
     requires turns { (0 < plan.turns) × (plan.turns ≤ 2 ^ 62) }
     requires peers { AllByRecursion (λ m. IsSome (key_of core.node.keys m)) (map contact_of plan.contacts.items) }
@@ -74,7 +77,10 @@ pub fn node<
     ensures keeper { IfOk result (λ ran. KeepsAll K.held K.saves K.faults K.save_gives
         core ran.closed.journal keeper ran.closed.keeper) }
     ensures limit { IfOk result (λ ran. length ran.closed.journal ≤ plan.turns) }
-    ensures kept { IfOk result (λ ran. ran.closed.entries ≡ entries_if plan.keeps ran.closed.journal) }
+    // as much of it is left as the store keeps, and all that it handed on before went to the recorder
+    ensures kept { IfOk result (λ ran. ran.closed.left ≡ left_of plan.retention ran.closed.journal) }
+    ensures recorded { IfOk result (λ ran. RecordsIf R.records (all_batches plan.retention ran.closed.journal)
+        outlets.old.recorder outlets.new.recorder) }
     // its places are shared out, its lines are the output, and the hub was asked for links and a door as the plan says
     ensures run { IfOk result (λ ran. NodeRun
         (setting core plan.turns (C.may_give host.now.clock.now) (H.gives hub.old))
@@ -86,38 +92,38 @@ pub fn node<
     ensures unstarted { IfOk result (λ ran. ran.end ≡ RunEnd.TooFewThreads → hub.new ≡ hub.old) }
     ensures later { H.faults hub.old ≤ H.faults hub.new }
     // what the board was handed is the texts of how the core was, at places of the journal
-    ensures told { IfOk result (λ ran. ToldIf D.show_gives core bulletin.old ran.closed.journal bulletin.new) }
-    ensures untold { OnErr result (bulletin.new ≡ bulletin.old) }
+    ensures told { IfOk result (λ ran. ToldIf D.show_gives core outlets.old.bulletin ran.closed.journal outlets.new.bulletin) }
+    ensures untold { OnErr result (outlets.new ≡ outlets.old) }
     ensures spared { IfErr result (λ spared. (spared.core ≡ core) × (spared.keeper ≡ keeper)) }
     ensures nothing { OnErr result ((hub.new ≡ hub.old) × (sink.new ≡ sink.old)) }
 {
-    let (store, pass) = match store_of(host.alloc, core, keeper, plan.turns, plan.keeps) {
+    let (store, pass) = match store_of(host.alloc, core, keeper, plan.turns, plan.retention) {
         Ok(opened) => opened,
         Err(spared) => return Err(spared),
     };
-    let (end, pass) = live(host, &store, pass, plan, hub, sink, bulletin);
+    let (end, pass) = live(host, &store, pass, plan, hub, sink, outlets);
     let closed = store.close(pass);
     Ok(Ran { end, closed })
 }
 
-/// The store of a run, which keeps its entries if that is asked.
+/// The store of a run, which keeps such entries.
 fn store_of<B: Branch + Drop, K: Keeper + Drop>(
     alloc: Global,
     core: Core<B>,
     keeper: K,
     turns: u64,
-    keeps: bool,
+    retention: Retention,
 ) -> Result<(Store<B, K>, Pass), Spared<B, K>>
     requires turns { (0 < turns) × (turns ≤ 2 ^ 62) }
     ensures start { IfOk result (λ opened. (start_of opened.0 ≡ core) × (keeper_of opened.0 ≡ keeper)) }
     ensures limit { IfOk result (λ opened. turns_of opened.0 ≡ turns) }
-    ensures keeps { IfOk result (λ opened. keeps_of opened.0 ≡ keeps) }
+    ensures keeps { IfOk result (λ opened. retention_of opened.0 ≡ retention) }
     ensures pass { IfOk result (λ opened. IsOf opened.0 opened.1 × (known opened.1 ≡ newcomer)) }
     ensures spared { IfErr result (λ spared. (spared.core ≡ core) × (spared.keeper ≡ keeper)) }
 {
-    if keeps {
-        Store::open(alloc, core, keeper, turns)
-    } else {
-        Store::open_unkept(alloc, core, keeper, turns)
+    match retention {
+        Retention::Nothing => Store::open_unkept(alloc, core, keeper, turns),
+        Retention::Whole => Store::open(alloc, core, keeper, turns),
+        Retention::Passing => Store::open_passing(alloc, core, keeper, turns),
     }
 }

@@ -1,9 +1,10 @@
 ghost use Rattle.std.specs.Prelude.{◌≡◌, length};
 ghost use Rattle.xl_turns.specs.Passes.{known};
-ghost use Rattle.xl_store.specs.Stores.{start_of, turns_of, IsOf};
+ghost use Rattle.xl_store.specs.Stores.{start_of, turns_of, retention_of, IsOf};
 ghost use Rattle.xl_heartbeat.specs.Outputs.{output};
 ghost use Rattle.xl_heartbeat.specs.Beats.{Heartbeat};
 ghost use Rattle.xl_heartbeat.specs.Bulletins.{ToldIf};
+ghost use Rattle.xl_heartbeat.specs.Recording.{Recorded};
 ghost use Rattle.xl_workers.specs.Doors.{HasKept};
 ghost use Rattle.xl_workers.specs.Serving.{IsReady, HasServed, AreReady, HaveServed};
 
@@ -15,12 +16,12 @@ use std::sync::Wait;
 use std::thread;
 use std::thread::Threads;
 use xl_board::Board;
-use xl_heartbeat::{BeatEnd, Bulletin, Pulse, beat};
+use xl_heartbeat::{BeatEnd, Outlets, Pulse, beat};
 use xl_io::{Keeper, Sink};
 use xl_ledger::Branch;
 use xl_links::{Clock, Door, Gate, Link};
 use xl_peers::{Host, attend};
-use xl_store::{Pass, Store};
+use xl_store::{Pass, Recorder, Store};
 
 /// What serves one member, in a thread of its own if one can be made.
 #[derive(Drop)]
@@ -66,14 +67,22 @@ pub(crate) fn work_all<
     );
 }
 
-/// The heartbeat, which tells on the bulletin if there is one.
-fn beat_on<W: Wait + Files, B: Branch + Drop, K: Keeper + Drop, O: Sink, C: Clock, D: Board + Drop>(
+/// The heartbeat, which tells on the bulletin and hands on to the recorder, if there are these.
+fn beat_on<
+    W: Wait + Files,
+    B: Branch + Drop,
+    K: Keeper + Drop,
+    O: Sink,
+    C: Clock,
+    D: Board + Drop,
+    R: Recorder + Drop,
+>(
     rt: &W,
     store: &Store<B, K>,
     clock: &C,
     sink: &mut O,
     pulse: &Pulse,
-    bulletin: &mut Option<Bulletin<D>>,
+    outlets: &mut Outlets<D, R>,
     pass: &mut Pass,
 ) -> BeatEnd
     requires pass { IsOf store.now pass.old }
@@ -81,10 +90,16 @@ fn beat_on<W: Wait + Files, B: Branch + Drop, K: Keeper + Drop, O: Sink, C: Cloc
     ensures heartbeat { Heartbeat (start_of store.now) (turns_of store.now) (C.may_give clock.now) pulse.now
         (known pass.old) (output (O.held sink.old) (O.faults sink.old)) result
         (known pass.new) (output (O.held sink.new) (O.faults sink.new)) }
-    ensures told { ToldIf D.show_gives (start_of store.now) bulletin.old (known pass.new).seen bulletin.new }
+    ensures told { ToldIf D.show_gives (start_of store.now) outlets.old.bulletin (known pass.new).seen outlets.new.bulletin }
+    ensures recorded { Recorded R.records (retention_of store.now) (start_of store.now)
+        (known pass.old) (known pass.new) outlets.old.recorder outlets.new.recorder }
 {
-    let left = beat(rt, store, clock, sink, pulse, bulletin.take(), pass);
-    *bulletin = left.bulletin;
+    let taken = Outlets {
+        bulletin: outlets.bulletin.take(),
+        recorder: outlets.recorder.take(),
+    };
+    let left = beat(rt, store, clock, sink, pulse, taken, pass);
+    *outlets = left.outlets;
     left.end
 }
 
@@ -153,6 +168,7 @@ pub(crate) fn run<
     C: Clock + Sync,
     O: Sink + Send,
     D: Board + Drop + Send,
+    R: Recorder + Drop + Send,
 >(
     host: &Host<'_, W, G, C>,
     store: &Store<B, K>,
@@ -160,7 +176,7 @@ pub(crate) fn run<
     crew: &mut Crew<L, P>,
     pulse: &Pulse,
     sink: &mut O,
-    bulletin: &mut Option<Bulletin<D>>,
+    outlets: &mut Outlets<D, R>,
 ) -> BeatEnd
     requires pass { IsOf store.now pass.old }
     requires porter { IsOf store.now crew.old.porter.pass }
@@ -169,7 +185,9 @@ pub(crate) fn run<
     ensures heartbeat { Heartbeat (start_of store.now) (turns_of store.now) (C.may_give host.now.clock.now) pulse.now
         (known pass.old) (output (O.held sink.old) (O.faults sink.old)) result
         (known pass.new) (output (O.held sink.new) (O.faults sink.new)) }
-    ensures told { ToldIf D.show_gives (start_of store.now) bulletin.old (known pass.new).seen bulletin.new }
+    ensures told { ToldIf D.show_gives (start_of store.now) outlets.old.bulletin (known pass.new).seen outlets.new.bulletin }
+    ensures recorded { Recorded R.records (retention_of store.now) (start_of store.now)
+        (known pass.old) (known pass.new) outlets.old.recorder outlets.new.recorder }
     ensures kept { HasKept store.now (C.may_give host.now.clock.now) P.shows crew.old.porter crew.new.porter }
     ensures served { HaveServed store.now (C.may_give host.now.clock.now) L.shows crew.old.workers.items crew.new.workers.items }
     ensures long { length crew.new.workers.items ≡ length crew.old.workers.items }
@@ -189,8 +207,10 @@ pub(crate) fn run<
                 × Heartbeat (start_of store.entry.now) (turns_of store.entry.now) (C.may_give host.entry.now.clock.now) pulse.entry.now
                 (known pass.entry.now) (output (O.held sink.entry.now) (O.faults sink.entry.now)) result
                 (known pass.exit.now) (output (O.held sink.exit.now) (O.faults sink.exit.now))
-                × ToldIf D.show_gives (start_of store.entry.now) bulletin.entry.now (known pass.exit.now).seen bulletin.exit.now }
-        { beat_on(host.rt, store, host.clock, sink, pulse, bulletin, pass) },
+                × ToldIf D.show_gives (start_of store.entry.now) outlets.entry.now.bulletin (known pass.exit.now).seen outlets.exit.now.bulletin
+                × Recorded R.records (retention_of store.entry.now) (start_of store.entry.now)
+                (known pass.entry.now) (known pass.exit.now) outlets.entry.now.recorder outlets.exit.now.recorder }
+        { beat_on(host.rt, store, host.clock, sink, pulse, outlets, pass) },
     );
     beats
 }

@@ -1,8 +1,9 @@
 use Rattle.xl_turns.specs.Passes.{known}
-use Rattle.xl_store.specs.Stores.{start_of, IsOf}
+use Rattle.xl_store.specs.Stores.{start_of, retention_of, IsOf}
 use Rattle.xl_heartbeat.specs.Outputs.{output}
 use Rattle.xl_heartbeat.specs.Beats.Phase.{Beats}
 use Rattle.xl_heartbeat.specs.Bulletins.{ToldIf}
+use Rattle.xl_heartbeat.specs.Recording.{Recorded}
 use Rattle.xl_heartbeat.specs.Going.{Beating}
 use Rattle.xl_heartbeat.proofs.beating.beat.Given as goal
 
@@ -13,5 +14,7 @@ invariant-loop g l = record {
       (known l.initial.pass) (output (g.O.Sink.held l.initial.sink) (g.O.Sink.faults l.initial.sink))
       (Beats l.progress.standing)
       (known l.pass) (output (g.O.Sink.held l.sink) (g.O.Sink.faults l.sink));
-  told : ToldIf g.D.Board.show_gives (start_of l.store) l.fn.bulletin (known l.pass).seen l.progress.bulletin;
+  told : ToldIf g.D.Board.show_gives (start_of l.store) l.fn.outlets.bulletin (known l.pass).seen l.progress.outlets.bulletin;
+  recorded : Recorded g.R.Recorder.records (retention_of l.store) (start_of l.store) (known l.initial.pass) (known l.pass)
+      l.fn.outlets.recorder l.progress.outlets.recorder;
 }

@@ -1,12 +1,13 @@
 -- the list is set first, then the timer comes, then reports are taken, and a call without a turn ends the beat there
-use Rattle.std.proofs.Common.{sym, subst, ◌∙◌, ap}
+use Rattle.std.proofs.Common.{[], ◌∷◌, refl, sym, subst, ◌∙◌, ap}
 use Rattle.xl_turns.specs.Passes.{known}
-use Rattle.xl_store.specs.Stores.{start_of, turns_of}
+use Rattle.xl_store.specs.Stores.{start_of, turns_of, retention_of}
 use Rattle.xl_heartbeat.specs.Outputs.{output}
 use Rattle.xl_heartbeat.specs.Beats.{Phase}
 use Rattle.xl_heartbeat.specs.Going.{Beaten, Follows, after_reports}
 use Rattle.xl_heartbeat.proofs.Pulses.{relisted, timed, taken, not_called}
 use Rattle.xl_heartbeat.proofs.Telling.{noted, still_told}
+use Rattle.xl_heartbeat.proofs.Recording.{recorded_both, recorded_quiet, recorded_refused, quiet_asked}
 use Rattle.xl_heartbeat.proofs.beating.beat_once.Goals as goal
 
 pub returns-clause-follows : goal.returns-clause-follows
@@ -67,7 +68,7 @@ returns-clause-told g c first t =
     let gives = g.D.Board.show_gives in
     let start = start_of c.args.store.now in
     let bulletin = c.note_look.new.bulletin in
-    let kept = noted gives start first c.args.progress.now.bulletin bulletin c.look_at-look.result (known c.args.pass.now).seen
+    let kept = noted gives start first c.args.progress.now.outlets.bulletin bulletin c.look_at-look.result (known c.args.pass.now).seen
     c.note_look.ensures t in
     c.take_and_tell-taken.ensures.told first
     (still_told gives start first bulletin (known c.relist_at.new.pass).seen (known c.timer.new.pass).seen
@@ -80,7 +81,7 @@ returns-in-Err-timer-clause-told g c first t =
     let gives = g.D.Board.show_gives in
     let start = start_of c.args.store.now in
     let bulletin = c.note_look.new.bulletin in
-    let kept = noted gives start first c.args.progress.now.bulletin bulletin c.look_at-look.result (known c.args.pass.now).seen
+    let kept = noted gives start first c.args.progress.now.outlets.bulletin bulletin c.look_at-look.result (known c.args.pass.now).seen
     c.note_look.ensures t in
     still_told gives start first bulletin (known c.relist_at.new.pass).seen (known c.timer.new.pass).seen
     c.in-Err-timer.ensures.refused.made.begins
@@ -93,5 +94,43 @@ returns-in-Err-clause-told g c first t =
     let start = start_of c.args.store.now in
     still_told gives start first c.note_look.new.bulletin
     (known c.args.pass.now).seen (known c.relist_at.new.pass).seen c.in-Err.ensures.refused.made.begins
-    (noted gives start first c.args.progress.now.bulletin c.note_look.new.bulletin c.look_at-look.result (known c.args.pass.now).seen
+    (noted gives start first c.args.progress.now.outlets.bulletin c.note_look.new.bulletin c.look_at-look.result (known c.args.pass.now).seen
     c.note_look.ensures t)
+
+pub returns-clause-recorded : goal.returns-clause-recorded
+returns-clause-recorded g c =
+    let records = g.R.Recorder.records in
+    let start = start_of c.args.store.now in
+    let retention = retention_of c.args.store.now in
+    let recorder = c.args.progress.now.outlets.recorder in
+    let old = known c.args.pass.now in
+    let asked = known c.relist_at.new.pass in
+    let r = c.in-Ok.ensures.relisted in
+    let far = recorded_quiet records retention start old asked r.calls recorder r.made
+    (quiet_asked _ c.now-now.result c.look_at-look.new.standing.set r.next r.calls r.asked) in
+    let timed = known c.timer.new.pass in
+    let new = known c.take_and_tell-taken.new.pass in
+    let due = recorded_both records retention start old asked timed recorder recorder recorder far
+    (recorded_quiet records retention start asked timed _ recorder c.in-Ok-timer.ensures.called.made (refl, tt)) in
+    recorded_both records retention start old timed new recorder recorder
+    c.take_and_tell-taken.new.outlets.recorder due c.take_and_tell-taken.ensures.recorded
+
+pub returns-in-Err-timer-clause-recorded : goal.returns-in-Err-timer-clause-recorded
+returns-in-Err-timer-clause-recorded g c =
+    let records = g.R.Recorder.records in
+    let start = start_of c.args.store.now in
+    let retention = retention_of c.args.store.now in
+    let recorder = c.args.progress.now.outlets.recorder in
+    let old = known c.args.pass.now in
+    let asked = known c.relist_at.new.pass in
+    let r = c.in-Ok.ensures.relisted in
+    let far = recorded_quiet records retention start old asked r.calls recorder r.made
+    (quiet_asked _ c.now-now.result c.look_at-look.new.standing.set r.next r.calls r.asked) in
+    recorded_both records retention start old asked (known c.timer.new.pass) recorder recorder recorder far
+    (recorded_refused records c.args.store.now c.relist_at.new.pass c.timer.new.pass c.in-Err-timer.end recorder
+    c.in-Err-timer.ensures.refused)
+
+pub returns-in-Err-clause-recorded : goal.returns-in-Err-clause-recorded
+returns-in-Err-clause-recorded g c =
+    recorded_refused g.R.Recorder.records c.args.store.now c.args.pass.now c.relist_at.new.pass c.in-Err.end
+    c.args.progress.now.outlets.recorder c.in-Err.ensures.refused

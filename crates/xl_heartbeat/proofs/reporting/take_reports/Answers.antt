@@ -5,6 +5,7 @@ use Rattle.xl_store.specs.Stores.{start_of, turns_of}
 use Rattle.xl_heartbeat.specs.Outputs.{output}
 use Rattle.xl_heartbeat.specs.Beats.{TakesReports}
 use Rattle.xl_heartbeat.proofs.Pulses.{all_taken, some_written, not_taken}
+use Rattle.xl_heartbeat.proofs.Recording.{recorded_taken, recorded_refused}
 use Rattle.xl_heartbeat.proofs.reporting.take_reports.Goals as goal
 
 pub returns-in-Ok-write_reports-clause-takes : goal.returns-in-Ok-write_reports-clause-takes
@@ -29,3 +30,20 @@ returns-in-Err-clause-takes g c =
     subst (λ e. TakesReports start turns (known c.args.pass.now) same e (known c.reports.new.pass) same)
     (sym c.ending_of.ensures)
     (not_taken c.args.store.now c.args.pass.now c.reports.new.pass same c.in-Err.end c.in-Err.ensures.refused)
+
+pub returns-in-Ok-write_reports-clause-recorded : goal.returns-in-Ok-write_reports-clause-recorded
+returns-in-Ok-write_reports-clause-recorded g c =
+    recorded_taken g.R.Recorder.records c.args.store.now c.args.pass.now c.reports.new.pass c.in-Ok.count _
+    c.reports.new.room c.in-Ok.batch c.args.recorder.now c.hand_on.new.recorder c.in-Ok.ensures.called
+    c.in-Ok.ensures.batch c.hand_on.ensures
+
+pub returns-in-Err-write_reports-clause-recorded : goal.returns-in-Err-write_reports-clause-recorded
+returns-in-Err-write_reports-clause-recorded g c =
+    recorded_taken g.R.Recorder.records c.args.store.now c.args.pass.now c.reports.new.pass c.in-Ok.count _
+    c.reports.new.room c.in-Ok.batch c.args.recorder.now c.hand_on.new.recorder c.in-Ok.ensures.called
+    c.in-Ok.ensures.batch c.hand_on.ensures
+
+pub returns-in-Err-clause-recorded : goal.returns-in-Err-clause-recorded
+returns-in-Err-clause-recorded g c =
+    recorded_refused g.R.Recorder.records c.args.store.now c.args.pass.now c.reports.new.pass c.in-Err.end
+    c.args.recorder.now c.in-Err.ensures.refused

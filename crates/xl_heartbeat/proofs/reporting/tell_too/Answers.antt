@@ -8,6 +8,7 @@ use Rattle.xl_heartbeat.specs.Beats.{TakesReports}
 use Rattle.xl_heartbeat.specs.Bulletins.{Told}
 use Rattle.xl_heartbeat.proofs.Pulses.{all_taken, some_written, not_taken}
 use Rattle.xl_heartbeat.proofs.Telling.{told_now}
+use Rattle.xl_heartbeat.proofs.Recording.{recorded_taken, recorded_refused}
 use Rattle.xl_heartbeat.proofs.reporting.tell_too.Goals as goal
 
 pub returns-in-Ok-write_reports-clause-takes : goal.returns-in-Ok-write_reports-clause-takes
@@ -49,3 +50,20 @@ pub returns-then-not-is_due-clause-told : goal.returns-then-not-is_due-clause-to
 returns-then-not-is_due-clause-told g c first t =
     Told.goes_on (known c.args.pass.now).seen (known c.take_reports.new.pass).seen c.args.bulletin.now t
     c.take_reports.ensures.takes.made.begins
+
+pub returns-in-Ok-write_reports-clause-recorded : goal.returns-in-Ok-write_reports-clause-recorded
+returns-in-Ok-write_reports-clause-recorded g c =
+    recorded_taken g.R.Recorder.records c.args.store.now c.args.pass.now c.reports_and_status.new.pass c.in-Ok.count _
+    c.reports_and_status.new.room c.in-Ok.batch c.args.recorder.now c.hand_on.new.recorder c.in-Ok.ensures.called
+    c.in-Ok.ensures.batch c.hand_on.ensures
+
+pub returns-in-Err-write_reports-clause-recorded : goal.returns-in-Err-write_reports-clause-recorded
+returns-in-Err-write_reports-clause-recorded g c =
+    recorded_taken g.R.Recorder.records c.args.store.now c.args.pass.now c.reports_and_status.new.pass c.in-Ok.count _
+    c.reports_and_status.new.room c.in-Ok.batch c.args.recorder.now c.hand_on.new.recorder c.in-Ok.ensures.called
+    c.in-Ok.ensures.batch c.hand_on.ensures
+
+pub returns-in-Err-clause-recorded : goal.returns-in-Err-clause-recorded
+returns-in-Err-clause-recorded g c =
+    recorded_refused g.R.Recorder.records c.args.store.now c.args.pass.now c.reports_and_status.new.pass c.in-Err.end
+    c.args.recorder.now c.in-Err.ensures.refused

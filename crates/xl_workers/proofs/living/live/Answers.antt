@@ -4,10 +4,13 @@ use Rattle.std.proofs.Common.{◌≡◌, ◌≤◌, ◌^◌, ℕ, Option, List, 
 use Rattle.std.proofs.lemmas.List.{length-map}
 use Rattle.std.specs.Prelude.{IsSome}
 use Rattle.std.specs.List.{AllByRecursion}
+use mathlib.Core.List.{IsPrefix}
 use Rattle.xl_base.specs.declared.ids.TxId.{TxId}
 use Rattle.xl_tags.specs.Rings.{key_of}
 use Rattle.xl_turns.specs.Passes.{known}
-use Rattle.xl_store.specs.Stores.{start_of, turns_of}
+use Rattle.xl_turns.proofs.Prefixes.{prefix_trans}
+use Rattle.xl_store.specs.declared.entry.Entry.{Entry}
+use Rattle.xl_store.specs.Stores.{start_of, turns_of, retention_of}
 use Rattle.xl_heartbeat.specs.Outputs.{output}
 use Rattle.xl_heartbeat.proofs.Telling.{untold, still_told}
 use Rattle.xl_workers.specs.declared.ends.RunEnd.{RunEnd}
@@ -29,6 +32,7 @@ use Rattle.xl_workers.proofs.Links.{same_members, all_front}
 use Rattle.xl_workers.proofs.Starts.{enough_left, are_all, same_peers, same_mine, same_seen, worked_from}
 use Rattle.xl_workers.proofs.Shared.{Joined, all_his, worked}
 use Rattle.xl_workers.proofs.Lives.{lived, lived_unstarted, lived_front, lives_ran, lives_none, lives_unlinked, still_whole}
+use Rattle.xl_workers.proofs.Recordings.{IsQuietAt, quiet_first, nothing_recorded, submits_recorded, all_recorded}
 use Rattle.xl_workers.proofs.living.live.Goals as goal
 
 pub split-first-requires-clause-share : goal.split-first-requires-clause-share
@@ -296,36 +300,159 @@ returns-clause-lived g c =
 
 pub returns-then-not-can_run-clause-told : goal.returns-then-not-can_run-clause-told
 returns-then-not-can_run-clause-told g c =
-    untold g.D.Board.show_gives (start_of c.args.store.now) c.args.bulletin.now (known c.args.pass).seen
+    untold g.D.Board.show_gives (start_of c.args.store.now) c.args.outlets.now.bulletin (known c.args.pass).seen
 
 pub returns-in-Err-clause-told : goal.returns-in-Err-clause-told
 returns-in-Err-clause-told g c =
-    untold g.D.Board.show_gives (start_of c.args.store.now) c.args.bulletin.now (known c.submit_all.new.pass).seen
+    untold g.D.Board.show_gives (start_of c.args.store.now) c.args.outlets.now.bulletin (known c.submit_all.new.pass).seen
 
 pub returns-in-Err-NetFault-clause-told : goal.returns-in-Err-NetFault-clause-told
 returns-in-Err-NetFault-clause-told g c =
-    untold g.D.Board.show_gives (start_of c.args.store.now) c.args.bulletin.now (known c.submit_all.new.pass).seen
+    untold g.D.Board.show_gives (start_of c.args.store.now) c.args.outlets.now.bulletin (known c.submit_all.new.pass).seen
 
 pub returns-in-Err-OutOfMemory-clause-told : goal.returns-in-Err-OutOfMemory-clause-told
 returns-in-Err-OutOfMemory-clause-told g c =
-    untold g.D.Board.show_gives (start_of c.args.store.now) c.args.bulletin.now (known c.submit_all.new.pass).seen
+    untold g.D.Board.show_gives (start_of c.args.store.now) c.args.outlets.now.bulletin (known c.submit_all.new.pass).seen
 
 pub returns-in-Err-open_door-clause-told : goal.returns-in-Err-open_door-clause-told
 returns-in-Err-open_door-clause-told g c =
-    untold g.D.Board.show_gives (start_of c.args.store.now) c.args.bulletin.now (known c.submit_all.new.pass).seen
+    untold g.D.Board.show_gives (start_of c.args.store.now) c.args.outlets.now.bulletin (known c.submit_all.new.pass).seen
 
 pub returns-in_default-clause-told : goal.returns-in_default-clause-told
 returns-in_default-clause-told g c =
-    untold g.D.Board.show_gives (start_of c.args.store.now) c.args.bulletin.now (known c.submit_all.new.pass).seen
+    untold g.D.Board.show_gives (start_of c.args.store.now) c.args.outlets.now.bulletin (known c.submit_all.new.pass).seen
 
 pub returns-clause-told : goal.returns-clause-told
 returns-clause-told g c =
     let gives = g.D.Board.show_gives in
     let start = start_of c.args.store.now in
-    let old = c.args.bulletin.now in
-    let new = c.run-beats.new.bulletin in
+    let old = c.args.outlets.now.bulletin in
+    let new = c.run-beats.new.outlets.bulletin in
     let all = (known c.join_crew-pass.result).seen in
     still_told gives start old new all (known c.take_last-last.new.pass).seen c.take_last-last.ensures.last.made.begins
     (still_told gives start old new (known c.join-one.result).seen all c.join_crew-pass.ensures.first
     (still_told gives start old new (known c.run-beats.new.pass).seen (known c.join-one.result).seen
     c.join-one.ensures.other c.run-beats.ensures.told))
+
+pub returns-then-not-can_run-clause-recorded : goal.returns-then-not-can_run-clause-recorded
+returns-then-not-can_run-clause-recorded g c =
+    nothing_recorded g.R.Recorder.records (retention_of c.args.store.now) (turns_of c.args.store.now) (known c.args.pass)
+    c.args.outlets.now.recorder c.requires.new
+
+pub returns-in-Err-clause-recorded : goal.returns-in-Err-clause-recorded
+returns-in-Err-clause-recorded g c =
+    let start = start_of c.args.store.now in
+    let turns = turns_of c.args.store.now in
+    let may = g.C.Clock.may_give c.args.host.now.clock.now in
+    let ids : List TxId = c.args.plan.submits.items in
+    let old = known c.args.pass in
+    let mid = known c.submit_all.new.pass in
+    let front = subst (λ (l : List TxId). SubmittedFront start turns may old l c.in-Err.end mid) c.deref.ensures.value
+    c.in-Err.ensures.front in
+    submits_recorded g.R.Recorder.records (retention_of c.args.store.now) turns start may old mid front.done
+    c.args.outlets.now.recorder c.requires.new front.submitted
+
+pub returns-in-Err-NetFault-clause-recorded : goal.returns-in-Err-NetFault-clause-recorded
+returns-in-Err-NetFault-clause-recorded g c =
+    let start = start_of c.args.store.now in
+    let may = g.C.Clock.may_give c.args.host.now.clock.now in
+    let ids : List TxId = c.args.plan.submits.items in
+    let old = known c.args.pass in
+    let mid = known c.submit_all.new.pass in
+    let sub = subst (λ (l : List TxId). Submitted start may old l mid) c.deref.ensures.value c.in-Ok.ensures.all in
+    submits_recorded g.R.Recorder.records (retention_of c.args.store.now) (turns_of c.args.store.now) start may old mid ids
+    c.args.outlets.now.recorder c.requires.new sub
+
+pub returns-in-Err-OutOfMemory-clause-recorded : goal.returns-in-Err-OutOfMemory-clause-recorded
+returns-in-Err-OutOfMemory-clause-recorded g c =
+    let start = start_of c.args.store.now in
+    let may = g.C.Clock.may_give c.args.host.now.clock.now in
+    let ids : List TxId = c.args.plan.submits.items in
+    let old = known c.args.pass in
+    let mid = known c.submit_all.new.pass in
+    let sub = subst (λ (l : List TxId). Submitted start may old l mid) c.deref.ensures.value c.in-Ok.ensures.all in
+    submits_recorded g.R.Recorder.records (retention_of c.args.store.now) (turns_of c.args.store.now) start may old mid ids
+    c.args.outlets.now.recorder c.requires.new sub
+
+pub returns-in_default-clause-recorded : goal.returns-in_default-clause-recorded
+returns-in_default-clause-recorded g c =
+    let start = start_of c.args.store.now in
+    let may = g.C.Clock.may_give c.args.host.now.clock.now in
+    let ids : List TxId = c.args.plan.submits.items in
+    let old = known c.args.pass in
+    let mid = known c.submit_all.new.pass in
+    let sub = subst (λ (l : List TxId). Submitted start may old l mid) c.deref.ensures.value c.in-Ok.ensures.all in
+    submits_recorded g.R.Recorder.records (retention_of c.args.store.now) (turns_of c.args.store.now) start may old mid ids
+    c.args.outlets.now.recorder c.requires.new sub
+
+pub returns-in-Err-open_door-clause-recorded : goal.returns-in-Err-open_door-clause-recorded
+returns-in-Err-open_door-clause-recorded g c =
+    let start = start_of c.args.store.now in
+    let may = g.C.Clock.may_give c.args.host.now.clock.now in
+    let ids : List TxId = c.args.plan.submits.items in
+    let old = known c.args.pass in
+    let mid = known c.submit_all.new.pass in
+    let sub = subst (λ (l : List TxId). Submitted start may old l mid) c.deref.ensures.value c.in-Ok.ensures.all in
+    submits_recorded g.R.Recorder.records (retention_of c.args.store.now) (turns_of c.args.store.now) start may old mid ids
+    c.args.outlets.now.recorder c.requires.new sub
+
+pub returns-clause-recorded : goal.returns-clause-recorded
+returns-clause-recorded g c =
+    let store = c.args.store.now in
+    let start = start_of store in
+    let may = g.C.Clock.may_give c.args.host.now.clock.now in
+    let shows = g.H.L.Link.shows in
+    let doors = g.H.D.Door.shows in
+    let gives = g.H.Hub.gives c.args.hub.now in
+    let s = setting start (turns_of store) may gives in
+    let ids : List TxId = c.args.plan.submits.items in
+    let pulse = c.args.plan.pulse in
+    let old = known c.args.pass in
+    let pass = c.submit_all.new.pass in
+    let mid = known pass in
+    let sub = subst (λ (l : List TxId). Submitted start may old l mid) c.deref.ensures.value c.in-Ok.ensures.all in
+    let share = still_whole s ids old mid c.requires.new sub in
+    let first = c.split-first.result.0 in
+    let heart = c.split-first.result.1 in
+    let now = c.hire_all-first.result.0 in
+    let crew : Crew g.row.H-L.Denot g.row.H-D.Denot = c.hire_all-first.result.1 in
+    let after : Crew g.row.H-L.Denot g.row.H-D.Denot = c.run-beats.new.crew in
+    let peers : List (Peer g.row.H-L.Denot) = c.in-Ok-open_links.peers.items in
+    let hired : List (Worker g.row.H-L.Denot) = crew.workers.items in
+    let ended : List (Worker g.row.H-L.Denot) = after.workers.items in
+    let door = c.in-Ok-open_door.door in
+    let h = c.hire_all-first.ensures in
+    let a = c.split-first.ensures.first in
+    let b = c.split-first.ensures.second in
+    let one = c.join-one.result in
+    let all = c.join_crew-pass.result in
+    let o1 = output (g.O.Sink.held c.args.sink.now) (g.O.Sink.faults c.args.sink.now) in
+    let o2 = output (g.O.Sink.held c.run-beats.new.sink) (g.O.Sink.faults c.run-beats.new.sink) in
+    let j : Joined store may shows doors pulse now heart c.run-beats.new.pass one all o1 o2 c.run-beats.result
+    crew.porter after.porter hired ended = record {
+      beating = c.run-beats.ensures.heartbeat;
+      served = c.run-beats.ensures.served;
+      long = c.run-beats.ensures.long;
+      join = c.join-one.ensures.known;
+      first_seen = c.join-one.ensures.one;
+      beat_seen = c.join-one.ensures.other;
+      keeping = c.run-beats.ensures.kept;
+      joins = c.join_crew-pass.ensures.known;
+      kept_seen = c.join_crew-pass.ensures.porter;
+      one_seen = c.join_crew-pass.ensures.first;
+      each = c.join_crew-pass.ensures.each;
+      all = are_all store pass first heart now peers door crew h a b share;
+    } in
+    let quiet : (history : List Entry) → IsPrefix (known all).seen history
+    → AllByRecursion (IsQuietAt history) (known now).mine = λ history begins.
+    let begun = subst (λ (l : List Entry). IsPrefix l history)
+    (same_seen store pass first heart now peers door crew h a b)
+    (prefix_trans (known now).seen (known one).seen history j.first_seen
+    (prefix_trans (known one).seen (known all).seen history j.one_seen begins)) in
+    subst (λ (l : List ℕ). AllByRecursion (IsQuietAt history) l)
+    (sym (same_mine store pass first heart now peers door crew h a b))
+    (quiet_first start may old mid ids history c.requires.new sub begun) in
+    all_recorded store may shows doors pulse now heart c.run-beats.new.pass one all o1 o2 c.run-beats.result
+    crew.porter after.porter hired ended j g.R.Recorder.records (retention_of store) c.args.outlets.now.recorder
+    c.run-beats.new.outlets.recorder c.take_last-last.new.recorder (known c.take_last-last.new.pass) quiet
+    c.run-beats.ensures.recorded c.take_last-last.ensures.recorded

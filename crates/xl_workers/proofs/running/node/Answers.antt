@@ -2,6 +2,8 @@
 use Rattle.std.proofs.Common.{ℕ, map, subst}
 use Rattle.xl_turns.specs.Passes.{known}
 use Rattle.xl_core.specs.Core.{Core}
+use Rattle.xl_store.specs.declared.retention.Retention.{Retention}
+use Rattle.xl_store.specs.Recording.{RecordsIf, all_batches}
 use Rattle.xl_store.specs.Stores.{start_of, turns_of}
 use Rattle.xl_heartbeat.specs.Outputs.{output}
 use Rattle.xl_heartbeat.specs.Bulletins.{ToldIf}
@@ -37,9 +39,22 @@ returns-clause-run g c =
 pub returns-clause-told : goal.returns-clause-told
 returns-clause-told g c =
     let gives = g.D.Board.show_gives in
-    let old = c.args.bulletin.now in
-    let new = c.live-end.new.bulletin in
+    let old = c.args.outlets.now.bulletin in
+    let new = c.live-end.new.outlets.bulletin in
     let history = c.close-closed.result.journal in
     subst (λ (core : Core). ToldIf gives core old history new) c.in-Ok.ensures.start.0
     (still_told gives (start_of c.in-Ok.opened.0) old new (known c.live-end.result.1).seen history
     c.close-closed.ensures.begins c.live-end.ensures.told)
+
+pub returns-clause-recorded : goal.returns-clause-recorded
+returns-clause-recorded g c =
+    let history = c.close-closed.result.journal in
+    let close : Closes (turns_of c.in-Ok.opened.0) (known c.live-end.result.1) history = record {
+      begins = c.close-closed.ensures.begins;
+      drawn = c.close-closed.ensures.drawn;
+      limit = c.close-closed.ensures.limit;
+    } in
+    subst (λ (retention : Retention).
+    RecordsIf g.R.Recorder.records (all_batches retention history) c.args.outlets.now.recorder
+    c.live-end.new.outlets.recorder) c.in-Ok.ensures.keeps
+    (c.live-end.ensures.recorded history close c.close-closed.ensures.places)
