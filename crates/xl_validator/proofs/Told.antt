@@ -126,31 +126,31 @@ none_named (Some p) is some = cc
 
 -- settings whose path can't be opened name one
 pub is_named : (s : Settings) (name : KeyName) → IsNamed s name → s.status ≡ None → s.journal_file ≡ None → ⊥
-is_named s key.Status named no no_file = none_named s.status no named
-is_named s key.JournalFile named no no_file = none_named s.journal_file no_file named
-is_named s key.Me named no no_file = named
-is_named s key.List named no no_file = named
-is_named s key.Quorum named no no_file = named
-is_named s key.Validating named no no_file = named
-is_named s key.Limit named no no_file = named
-is_named s key.Turns named no no_file = named
-is_named s key.HeartbeatMs named no no_file = named
-is_named s key.RunMs named no no_file = named
-is_named s key.Submit named no no_file = named
-is_named s key.Peer named no no_file = named
-is_named s key.Speak named no no_file = named
-is_named s key.Publisher named no no_file = named
-is_named s key.Threshold named no no_file = named
-is_named s key.Roll named no no_file = named
-is_named s key.Journal named no no_file = named
-is_named s key.JournalKeys named no no_file = named
-is_named s key.JournalBytes named no no_file = named
-is_named s key.Rolls named no no_file = named
-is_named s key.SubmitAt named no no_file = named
+is_named s key.Status named unnamed no_file = none_named s.status unnamed named
+is_named s key.JournalFile named unnamed no_file = none_named s.journal_file no_file named
+is_named s key.Me named unnamed no_file = named
+is_named s key.List named unnamed no_file = named
+is_named s key.Quorum named unnamed no_file = named
+is_named s key.Validating named unnamed no_file = named
+is_named s key.Limit named unnamed no_file = named
+is_named s key.Turns named unnamed no_file = named
+is_named s key.HeartbeatMs named unnamed no_file = named
+is_named s key.RunMs named unnamed no_file = named
+is_named s key.Submit named unnamed no_file = named
+is_named s key.Peer named unnamed no_file = named
+is_named s key.Speak named unnamed no_file = named
+is_named s key.Publisher named unnamed no_file = named
+is_named s key.Threshold named unnamed no_file = named
+is_named s key.Roll named unnamed no_file = named
+is_named s key.Journal named unnamed no_file = named
+is_named s key.JournalKeys named unnamed no_file = named
+is_named s key.JournalBytes named unnamed no_file = named
+is_named s key.Rolls named unnamed no_file = named
+is_named s key.SubmitAt named unnamed no_file = named
 
 pub is_either : (s : Settings) → IsSome s.status ⊎ IsSome s.journal_file → s.status ≡ None → s.journal_file ≡ None → ⊥
-is_either s (inl named) no no_file = none_named s.status no named
-is_either s (inr named) no no_file = none_named s.journal_file no_file named
+is_either s (inl named) unnamed no_file = none_named s.status unnamed named
+is_either s (inr named) unnamed no_file = none_named s.journal_file no_file named
 
 -- refused settings end so, and so does a board that can't be opened
 pub boardless : (failed : Type 0) (end told : Status) → end ≡ told
