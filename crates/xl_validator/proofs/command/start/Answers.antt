@@ -1,6 +1,7 @@
 -- the core opens at the number that the keeper gave, and its run's history is legal, so it can be written as it was
 use Rattle.std.proofs.Common.{◌≡◌, Bool, true, false, None, refl, ap, sym, subst, inl, inr, ◌∙◌, length}
 use Rattle.std.specs.Prelude.{is_some}
+use Rattle.std.proofs.lemmas.Result.{on_err_weaker}
 use Rattle.xl_heartbeat.specs.Outputs.{Output, output}
 use Rattle.xl_audit.specs.Rereading.{SaysYes}
 use Rattle.xl_base.specs.declared.status.Status.{Status}
@@ -9,12 +10,13 @@ use Rattle.xl_workers.specs.Linking.{hub_seen}
 use Rattle.xl_workers.specs.Runs.{status_of_end}
 use Rattle.xl_validator.specs.Preparing.{task_in}
 use Rattle.xl_validator.specs.Recordings.{IsWritten, is_written}
-use Rattle.xl_validator.specs.Following.{end_by, retention_by}
+use Rattle.xl_validator.specs.Following.{end_by, retention_by, status_with}
 use Rattle.xl_validator.specs.Validators.{between}
 use Rattle.xl_validator.specs.declared.recording.Recording.{Recording}
 use Rattle.xl_validator.proofs.Behind.{ends, legal_there, text_there, legal_of}
 use Rattle.xl_validator.proofs.Filed.{by_file, follows_first, follows_unread, kept_there, no_recorder}
 use Rattle.xl_validator.proofs.Leaving.{leaves_by}
+use Rattle.xl_validator.proofs.Statuses.{keeps_memory}
 use Rattle.xl_validator.proofs.Told.{of_either, of_none}
 use Rattle.xl_validator.proofs.command.start.Goals as goal
 
@@ -147,3 +149,16 @@ pub returns-in_default-clause-follows : goal.returns-in_default-clause-follows
 returns-in_default-clause-follows g c =
     follows_unread g.J.Sink.held g.J.Sink.faults c.args.judged.settings c.args.judged.now 0 c.args.reached.file
     c.unopened.result.journal c.unopened.ensures.journal
+
+pub returns-in-Err-clause-told : goal.returns-in-Err-clause-told
+returns-in-Err-clause-told g c end last with_it ends =
+    let why = end_by c.recorder_of-recorder.result in
+    of_none g.D.Board.show_gives c.args.judged.settings c.args.judged.now c.unopened-in-Err.result.journal end
+    None c.args.reached.bulletin last refl c.unopened-in-Err.ensures.journal
+    (inr (with_it ∙ ap (status_with why) c.unopened-in-Err.ensures.status ∙ keeps_memory why)) ends
+
+pub returns-in-Err-clause-follows : goal.returns-in-Err-clause-follows
+returns-in-Err-clause-follows g c =
+    follows_first g.J.Sink.held g.J.Sink.faults c.args.judged.settings c.args.judged.now c.in-Ok.kept
+    c.args.reached.file c.recorder_of-recorder.result c.unopened-in-Err.result.journal c.recorder_of-recorder.ensures
+    c.unopened-in-Err.ensures.journal
