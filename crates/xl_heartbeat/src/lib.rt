@@ -19,11 +19,11 @@
 mod beating;
 mod bulletin;
 mod ends;
+mod handing;
 mod lines;
 mod looking;
 mod outlets;
 mod pulse;
-mod recording;
 mod relisting;
 mod reporting;
 mod rolls_text;

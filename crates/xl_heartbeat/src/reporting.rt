@@ -10,8 +10,8 @@ ghost use Rattle.xl_heartbeat.specs.Bulletins.{Told, ToldIf};
 ghost use Rattle.xl_heartbeat.specs.Recording.{Recorded};
 
 use crate::ends::{Ending, ending_of};
+use crate::handing::hand_on;
 use crate::lines::write_reports;
-use crate::recording::hand_on;
 use crate::room::ROOM;
 use crate::{Bulletin, Outlets};
 use std::sync::Wait;
@@ -51,7 +51,8 @@ pub fn take_reports<W: Wait, B: Branch + Drop, K: Keeper + Drop, O: Sink, R: Rec
 {
     let mut room = [BLANK; ROOM];
     match store.reports(rt, pass, &mut room) {
-        Ok(Handed { count, batch }) => {
+        Ok(handed) => {
+            let Handed { count, batch } = handed;
             hand_on(recorder, batch);
             match write_reports(sink, &room[..count]) {
                 Ok(()) => Ending::Done,
@@ -123,7 +124,8 @@ fn tell_too<W: Wait, B: Branch + Drop, K: Keeper + Drop, O: Sink, D: Board, R: R
     }
     let mut room = [BLANK; ROOM];
     match store.reports_and_status(rt, pass, &mut room) {
-        Ok((Handed { count, batch }, status)) => {
+        Ok((handed, status)) => {
+            let Handed { count, batch } = handed;
             hand_on(recorder, batch);
             bulletin.tell(&status, now);
             match write_reports(sink, &room[..count]) {

@@ -13,14 +13,14 @@ returns-in-Ok-write_reports-clause-takes g c =
     all_taken c.args.store.now c.args.pass.now c.reports.new.pass
     (output (g.O.Sink.held c.args.sink.now) (g.O.Sink.faults c.args.sink.now))
     (output (g.O.Sink.held c.write_reports.new.sink) (g.O.Sink.faults c.write_reports.new.sink))
-    c.in-Ok.count _ c.reports.new.room c.in-Ok.ensures.called refl c.in-Ok-write_reports.ensures.adds
+    c.in-Ok.handed.count _ c.reports.new.room c.in-Ok.ensures.called refl c.in-Ok-write_reports.ensures.adds
 
 pub returns-in-Err-write_reports-clause-takes : goal.returns-in-Err-write_reports-clause-takes
 returns-in-Err-write_reports-clause-takes g c =
     some_written c.args.store.now c.args.pass.now c.reports.new.pass
     (output (g.O.Sink.held c.args.sink.now) (g.O.Sink.faults c.args.sink.now))
     (output (g.O.Sink.held c.write_reports.new.sink) (g.O.Sink.faults c.write_reports.new.sink))
-    c.in-Ok.count _ c.reports.new.room c.in-Ok.ensures.called refl c.in-Err-write_reports.ensures.less
+    c.in-Ok.handed.count _ c.reports.new.room c.in-Ok.ensures.called refl c.in-Err-write_reports.ensures.less
 
 pub returns-in-Err-clause-takes : goal.returns-in-Err-clause-takes
 returns-in-Err-clause-takes g c =
@@ -33,14 +33,14 @@ returns-in-Err-clause-takes g c =
 
 pub returns-in-Ok-write_reports-clause-recorded : goal.returns-in-Ok-write_reports-clause-recorded
 returns-in-Ok-write_reports-clause-recorded g c =
-    recorded_taken g.R.Recorder.records c.args.store.now c.args.pass.now c.reports.new.pass c.in-Ok.count _
-    c.reports.new.room c.in-Ok.batch c.args.recorder.now c.hand_on.new.recorder c.in-Ok.ensures.called
+    recorded_taken g.R.Recorder.records c.args.store.now c.args.pass.now c.reports.new.pass c.in-Ok.handed.count _
+    c.reports.new.room c.in-Ok.handed.batch c.args.recorder.now c.hand_on.new.recorder c.in-Ok.ensures.called
     c.in-Ok.ensures.batch c.hand_on.ensures
 
 pub returns-in-Err-write_reports-clause-recorded : goal.returns-in-Err-write_reports-clause-recorded
 returns-in-Err-write_reports-clause-recorded g c =
-    recorded_taken g.R.Recorder.records c.args.store.now c.args.pass.now c.reports.new.pass c.in-Ok.count _
-    c.reports.new.room c.in-Ok.batch c.args.recorder.now c.hand_on.new.recorder c.in-Ok.ensures.called
+    recorded_taken g.R.Recorder.records c.args.store.now c.args.pass.now c.reports.new.pass c.in-Ok.handed.count _
+    c.reports.new.room c.in-Ok.handed.batch c.args.recorder.now c.hand_on.new.recorder c.in-Ok.ensures.called
     c.in-Ok.ensures.batch c.hand_on.ensures
 
 pub returns-in-Err-clause-recorded : goal.returns-in-Err-clause-recorded
