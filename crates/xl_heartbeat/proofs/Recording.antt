@@ -1,7 +1,7 @@
 -- What is recorded goes on as the calls do.
 use Rattle.std.proofs.Common.{◌≡◌, ◌≤◌, ◌<◌, ℕ, ◌+◌, suc, zero, Bool, true, false, cond, List, [], ◌∷◌, ◌++◌, length, take, map, refl, sym, ap, ◌∙◌, subst, arith, append_assoc, append-nil, length-append, Option, Some, None}
 use Rattle.std.specs.Prelude.{slice_get}
-use Rattle.std.specs.List.{AllByRecursion, flat_map}
+use Rattle.std.specs.List.{AllByRecursion}
 use Rattle.std.specs.Option.{option_to_list}
 use Rattle.std.proofs.lemmas.Grind.{flat_map-append}
 use Rattle.std.proofs.lemmas.List.{append_cancel_left, take_all}
@@ -22,7 +22,7 @@ use Rattle.xl_store.specs.Calls.{Call, Made, Rise, StandAt, calls_of}
 use Rattle.xl_store.specs.Entries.{reply_of}
 use Rattle.xl_store.specs.Retentions.{handed_on, takes_reports}
 use Rattle.xl_store.specs.Recording.{Records, RecordsIf, batch_at, batches_at, takes_in}
-use Rattle.xl_store.specs.Stores.{start_of, retention_of, Called, HandedOut, Refused}
+use Rattle.xl_store.specs.Stores.{start_of, retention_of, HandedOut, Refused}
 use Rattle.xl_store.proofs.Journals.{get_last}
 use Rattle.xl_store.proofs.Making.{made_none, made_both}
 use Rattle.xl_heartbeat.specs.declared.ends.Stopping.{Stopping}

@@ -1,5 +1,5 @@
 -- All that a store hands on is what it handed on to the heartbeat and to the last reports.
-use Rattle.std.proofs.Common.{◌≡◌, ◌≤◌, ℕ, ◌+◌, Bool, false, List, [], ◌∷◌, ◌++◌, length, map, refl, sym, ap, ◌∙◌, subst, arith, Option, Some, None}
+use Rattle.std.proofs.Common.{◌≡◌, ◌≤◌, ℕ, ◌+◌, Bool, false, List, [], ◌∷◌, ◌++◌, length, map, sym, ap, ◌∙◌, subst, arith, Option, Some, None}
 use Rattle.std.specs.Prelude.{slice_get}
 use Rattle.std.specs.List.{AllByRecursion, flat_map}
 use Rattle.std.proofs.lemmas.Grind.{flat_map-append}
@@ -9,8 +9,7 @@ use Rattle.xl_turns.specs.declared.view.Knowledge.{Knowledge}
 use Rattle.xl_turns.specs.declared.pass.Pass.{Pass}
 use Rattle.xl_turns.specs.Knowing.{newcomer}
 use Rattle.xl_turns.specs.Passes.{known}
-use Rattle.xl_turns.specs.Places.{all_below}
-use Rattle.xl_turns.proofs.Prefixes.{prefix_all, prefix_trans}
+use Rattle.xl_turns.proofs.Prefixes.{prefix_trans}
 use Rattle.xl_links.specs.Doors.{Doorway}
 use Rattle.xl_links.specs.Links.{Wire}
 use Rattle.xl_core.specs.Core.{Core}
@@ -18,7 +17,6 @@ use Rattle.xl_store.specs.declared.entry.Entry.{Entry}
 use Rattle.xl_store.specs.declared.retention.Batch.{Batch}
 use Rattle.xl_store.specs.declared.retention.Retention.{Retention}
 use Rattle.xl_store.specs.declared.store.Store.{Store}
-use Rattle.xl_store.specs.declared.store.StoreEnd.{StoreEnd}
 use Rattle.xl_store.specs.Calls.{Call, Made, Rise}
 use Rattle.xl_store.specs.Recording.{RecordsIf, all_batches, batch_at, batches_at, takes_in}
 use Rattle.xl_store.specs.Stores.{start_of, turns_of}
@@ -36,9 +34,9 @@ use Rattle.xl_workers.specs.Pairing.{Paired}
 use Rattle.xl_workers.specs.Doors.{AttendsIf}
 use Rattle.xl_workers.specs.Joining.{HasSeen}
 use Rattle.xl_workers.specs.Serving.{HasServed, IsFresh}
-use Rattle.xl_workers.specs.Sharing.{Stands, merge_all}
-use Rattle.xl_workers.specs.Submits.{Submitted, SubmittedFront}
-use Rattle.xl_workers.specs.Working.{Closes, RecordsAll}
+use Rattle.xl_workers.specs.Sharing.{merge_all}
+use Rattle.xl_workers.specs.Submits.{Submitted}
+use Rattle.xl_workers.specs.Working.{RecordsAll}
 use Rattle.xl_workers.proofs.Merges.{IsSorted, IsSilent, none_of_silent, silent_but_second}
 use Rattle.xl_workers.proofs.Quiet.{quiet_submits, quiet_serving, quiet_attending}
 use Rattle.xl_workers.proofs.Shared.{Joined, stands, pairs_served, pass_mine, seen_more}

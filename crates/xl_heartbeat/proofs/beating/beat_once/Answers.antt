@@ -1,5 +1,5 @@
 -- the list is set first, then the timer comes, then reports are taken, and a call without a turn ends the beat there
-use Rattle.std.proofs.Common.{[], ◌∷◌, refl, sym, subst, ◌∙◌, ap}
+use Rattle.std.proofs.Common.{refl, sym, subst, ◌∙◌, ap}
 use Rattle.xl_turns.specs.Passes.{known}
 use Rattle.xl_store.specs.Stores.{start_of, turns_of, retention_of}
 use Rattle.xl_heartbeat.specs.Outputs.{output}
