@@ -91,6 +91,7 @@ class Seeds:
         lines = [b'listen = "ADDRESS"' if line.startswith(b'listen') else line for line in lines]
         more = [b'validating = false', b'limit = 100', b'turns = 50', b'heartbeat_ms = 100', b'submit = []']
         more += [b'journal = true', b'roll = ["5850"]', b'threshold = 1', b'status = "xl.status"', b'rolls = "none"']
+        more += [b'journal_file = "xl.journal"', b'journal_bytes = 300', b'journal_bytes = 0']
         more += [b'journal_keys = false', b'submit_at = "127.0.0.1:0"', b'submit_at = "0.0.0.0:1"']
         more += [b'publisher = [{ number = 1, key = "%s" }]' % (b'01' * 32)]
         lines = dice.sample(more, dice.randint(0, 2)) + [line for line in lines if not line.startswith(b'run_ms')]

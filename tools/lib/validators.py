@@ -17,6 +17,8 @@ HOLDS = 86400
 STRANGER = 63
 # How a written journal begins.
 JOURNAL = b"xl-journal 1\n"
+# Where a node writes one as it goes, and before the moment that names a former life's.
+JOURNAL_FILE = "xl.journal"
 FIRST_PORT = 20000
 LAST_PORT = 32000
 
@@ -170,6 +172,7 @@ def settings(me, members, pairs, trust, milliseconds, asked):
         "limit = 262144",
         f'submit = ["{transaction}"]',
         *(["journal = true"] if asked.journal else []),
+        *([f'journal_file = "{JOURNAL_FILE}"'] if asked.journal_file else []),
         *pairs.door(me),
         "",
     ]
@@ -219,10 +222,19 @@ class Node:
         return [(int(line[1]), line[2]) for line in words if len(line) == 3 and line[0] == "full"]
 
     def journal(self):
-        """The journal that its last life wrote behind its reports, or None."""
+        """The journal that its last life wrote to its file or behind its reports, or None."""
+        written = self.journals()
+        if written:
+            return written[-1]
         text = (self.folder / "reports").read_bytes()
         place = text.rfind(JOURNAL)
         return None if place < 0 else text[place:]
+
+    def journals(self):
+        """The journals that its lives wrote to files, the last life's last. A kill may leave an empty one."""
+        former = sorted(self.folder.glob(JOURNAL_FILE + ".*"), key=lambda path: int(path.suffix[1:]))
+        paths = [*former, self.folder / JOURNAL_FILE]
+        return [text for text in (path.read_bytes() for path in paths if path.exists()) if text]
 
     def is_over(self, turns):
         """Whether its last life came to its end by itself: by its time, or since it had spent its turns."""

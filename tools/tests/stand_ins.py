@@ -40,10 +40,11 @@ print('full 1', name(1), flush=True)
 time.sleep(settings['run_ms'] / 1000)
 if spoilt != 'after':
     print('full 2', name(2))
-if settings.get('journal') and spoilt != 'journal':
+if ('journal' in settings or 'journal_file' in settings) and spoilt != 'journal':
     second = 999 if spoilt == 'change' else 1 + %d + int(time.time())
-    print('xl-journal 1\\nsettings %%d 1 1 16384 yes 1 1000 0' %% me)
-    print('relist %%d000 4 1,2 - = ok\\nstop - = ok' %% second)
+    journal = open(settings['journal_file'], 'w') if 'journal_file' in settings else sys.stdout
+    print('xl-journal 1\\nsettings %%d 1 1 16384 yes 1 1000 0' %% me, file=journal)
+    print('relist %%d000 4 1,2 - = ok\\nstop - = ok' %% second, file=journal)
 '''
 
 

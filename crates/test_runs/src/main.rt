@@ -5,7 +5,7 @@
 //! text in `NAME.out`. The file `refusals` has a schedule a line, ` / ` between its lines, and behind ` -> ` the text
 //! that refuses the last. The file `faults` has such a line as `runs`, with the bytes of a piece in front. Each read
 //! of that run fails once, and each write. The run must then end with the status of that fault and a front of the
-//! text. Then a node runs whose keeper, link or board fails, and one that serves two links side by side.
+//! text. Then a node runs whose keeper, link, board or file fails, and one that serves two links side by side.
 //!
 //! It stands on xl_top. Its one contract: a run is called the same exactly if both the text and the status are.
 #![tactic(auto)]

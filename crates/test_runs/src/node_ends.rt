@@ -16,9 +16,13 @@ enum Failing {
     Load,
     Link,
     Board,
+    JournalFile,
 }
 
 const ALONE: &str = "me = 1\nlist = [1]\nquorum = 1\nrun_ms = 20000\nstatus = \"xl.status\"\n";
+
+const WITH_A_JOURNAL: &str =
+    "me = 1\nlist = [1]\nquorum = 1\nrun_ms = 3000\njournal_file = \"xl.journal\"\n";
 
 const WITH_A_PEER: &str =
     "me = 1\nlist = [1]\nquorum = 1\n[[peer]]\nnumber = 2\ndial = \"192.0.2.1:5005\"\n\
@@ -31,14 +35,21 @@ impl Failing {
             Failing::Load => "the load",
             Failing::Link => "the link",
             Failing::Board => "the board",
+            Failing::JournalFile => "the journal's file",
         }
     }
 
     fn settings(self) -> &'static str {
         match self {
             Failing::Link => WITH_A_PEER,
+            Failing::JournalFile => WITH_A_JOURNAL,
             _ => ALONE,
         }
+    }
+
+    /// Whether boards and files are opened.
+    fn opens(self) -> bool {
+        !matches!(self, Failing::Board | Failing::JournalFile)
     }
 
     /// The first call, if it is this one that fails.
@@ -71,7 +82,7 @@ fn end<R: Threads + Wait + Files + Sync>(
         failing.settings(),
         keeper_of(alloc, failing.first_if(Failing::Load, alloc)?)?,
         failing.hub(alloc)?,
-        MemBoards::new(alloc, failing != Failing::Board),
+        MemBoards::new(alloc, failing.opens()),
         &MemClock::new(BEGINNING),
     )?;
     Ok(ended.status)
@@ -84,6 +95,7 @@ pub fn run_ends<R: Threads + Wait + Files + Sync>(rt: &HostRuntime, threads: &R)
         Failing::Load,
         Failing::Link,
         Failing::Board,
+        Failing::JournalFile,
     ] {
         let status = end(threads, rt.alloc(), failing)?;
         println!(rt; "node, {} fails: status {}", failing.name(), status.code())?;

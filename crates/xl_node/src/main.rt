@@ -70,7 +70,7 @@ fn found_by(rt: &HostRuntime) -> Result<Outside, Status> {
         words: words_of(rt)?,
         keeper: keeper_of(rt)?,
         hub: TcpHub::new(rt.alloc(), again(rt)?),
-        boards: SystemBoards::new(rt.alloc(), again(rt)?),
+        boards: SystemBoards::new(rt.alloc(), again(rt)?, again(rt)?),
         clock: SystemClock::new(again(rt)?),
     })
 }

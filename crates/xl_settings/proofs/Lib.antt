@@ -1,3 +1,4 @@
+pub mod Apart
 pub mod Bounds
 pub mod Documents
 pub mod Fewness

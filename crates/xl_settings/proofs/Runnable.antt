@@ -1,5 +1,5 @@
 -- Settings that were read can be run.
-use Rattle.std.proofs.Common.{◌≡◌, ◌∙◌, ◌≤◌, ◌/◌, ℕ, Bool, true, false, List, Option, Some, None, Result, Ok, Err, IfOk, IfSome, refl, sym, ap, subst, cond, length, nat_lt, arith, option_map, option_and_then}
+use Rattle.std.proofs.Common.{◌≡◌, ◌∙◌, ◌≤◌, ◌/◌, ℕ, Bool, true, false, List, Option, Some, None, Result, Ok, Err, IfOk, IfSome, refl, sym, ap, subst, cond, is_some, length, nat_lt, arith, option_map, option_and_then}
 use Rattle.std.proofs.lemmas.Option.{same_Some}
 use Rattle.std.specs.Result.{result_ok}
 use Rattle.toml.specs.Data.{Members}
@@ -21,12 +21,14 @@ use Rattle.xl_settings.specs.Answers.{GivenMemory}
 use Rattle.xl_settings.specs.Keys.{least_unknown}
 use Rattle.xl_settings.specs.Lists.{members_at, met_by, published, stated_at, trust_of}
 use Rattle.xl_settings.specs.Doors.{submit_at}
+use Rattle.xl_settings.specs.Journals.{journal_at, journal_bytes_at, journal_file_at, journal_keys_at}
 use Rattle.xl_settings.specs.Paths.{rolls_path_at, status_at}
 use Rattle.xl_settings.specs.Peers.{PeerSetting, are_peers, fitting, found_peers, peers_in}
 use Rattle.xl_settings.specs.Publishers.{named_by, publishers_at, rolls_at, taken_in, threshold_at}
 use Rattle.xl_settings.specs.Runnable.{AreEverPeers, AreRunnable}
-use Rattle.xl_settings.specs.Settings.{needs, in_table, unless_unknown, in_document, settings_of, document_of, me_at, validating_at, limit_at, turns_at, heartbeat_at, run_at, speak_at, submits_at, journal_at, journal_keys_at}
+use Rattle.xl_settings.specs.Settings.{needs, in_table, unless_unknown, in_document, settings_of, document_of, me_at, validating_at, limit_at, turns_at, heartbeat_at, run_at, speak_at, submits_at}
 use Rattle.xl_settings.specs.Values.{at}
+use Rattle.xl_settings.proofs.Apart.{apart, bytes_bounded}
 use Rattle.xl_settings.proofs.Bounds.{usual_bounded, threshold_bounded}
 use Rattle.xl_settings.proofs.Fewness.{few_publishers}
 use Rattle.xl_settings.proofs.Naming.{force_met, if_some}
@@ -119,14 +121,16 @@ table_runs table now s e =
     got key.Roll (trust_of stated (taken_in table) threshold now) _ s (AreRunnable s) (λ trust trust_is e15.
     got key.Journal (journal_at table) _ s (AreRunnable s) (λ journal journal_is e16.
     got key.JournalKeys (journal_keys_at table) _ s (AreRunnable s) (λ with_keys with_keys_is e17.
-    got key.Status (status_at table) _ s (AreRunnable s) (λ status status_is e18.
-    got key.Rolls (rolls_path_at table) _ s (AreRunnable s) (λ looked_at looked_at_is e19.
-    got key.SubmitAt (submit_at table) _ s (AreRunnable s) (λ address address_is e20.
+    got key.JournalFile (journal_file_at table) _ s (AreRunnable s) (λ file file_is e18.
+    got key.JournalBytes (journal_bytes_at table) _ s (AreRunnable s) (λ bytes bytes_is e19.
+    got key.Status (status_at table) _ s (AreRunnable s) (λ status status_is e20.
+    got key.Rolls (rolls_path_at table) _ s (AreRunnable s) (λ looked_at looked_at_is e21.
+    got key.SubmitAt (submit_at table) _ s (AreRunnable s) (λ address address_is e22.
     let met = is_met me peers stated (taken_in table) threshold now trust
     (threshold_bounded (length publishers) threshold (at key.Threshold table)
     (few_publishers table publishers publishers_is) threshold_is)
     (fits me (met_by stated (taken_in table)) (found_peers (at key.Peer table)) peers peers_is) trust_is in
-    subst AreRunnable (same_Ok _ _ s refl e20) (record {
+    subst AreRunnable (same_Ok _ _ s refl e22) (record {
       limit = usual_bounded usual_limit least_limit greatest_limit limit (at key.Limit table) (omega arith)
           (omega arith) limit_is;
       turns = usual_bounded usual_turns 1 greatest_turns turns (at key.Turns table) (omega arith)
@@ -139,9 +143,11 @@ table_runs table now s e =
       named = met.named;
       speak = usual_bounded usual_speak usual_speak greatest_speak speak (at key.Speak table) (omega arith)
           (omega arith) speak_is;
+      apart = apart (journal_at table) journal (at key.JournalFile table) file journal_is file_is;
+      bytes = bytes_bounded (is_some (at key.JournalFile table)) (at key.JournalBytes table) bytes bytes_is;
       threshold = met.threshold;
     }))
-    e19) e18) e17) e16) e15) e14) e13) e12) e11) e10) e9) e8) e7) e6) e5) e4) e3) e2) e1) e
+    e21) e20) e19) e18) e17) e16) e15) e14) e13) e12) e11) e10) e9) e8) e7) e6) e5) e4) e3) e2) e1) e
 
 -- settings that bytes hold can be run
 pub can_run : (bytes : List ℕ) (now : ℕ) (s : Settings) → settings_of bytes now ≡ Ok s → AreRunnable s

@@ -28,6 +28,8 @@ text_of key.Threshold = codes "threshold"
 text_of key.Roll = codes "roll"
 text_of key.Journal = codes "journal"
 text_of key.JournalKeys = codes "journal_keys"
+text_of key.JournalFile = codes "journal_file"
+text_of key.JournalBytes = codes "journal_bytes"
 text_of key.Status = codes "status"
 text_of key.Rolls = codes "rolls"
 text_of key.SubmitAt = codes "submit_at"
@@ -37,7 +39,7 @@ abbrev pub all_keys : List KeyName
 all_keys =
     key.Me ∷ key.List ∷ key.Quorum ∷ key.Validating ∷ key.Limit ∷ key.Turns ∷ key.HeartbeatMs ∷ key.RunMs
     ∷ key.Submit ∷ key.Peer ∷ key.Speak ∷ key.Publisher ∷ key.Threshold ∷ key.Roll ∷ key.Journal
-    ∷ key.JournalKeys ∷ key.Status ∷ key.Rolls ∷ key.SubmitAt ∷ []
+    ∷ key.JournalKeys ∷ key.JournalFile ∷ key.JournalBytes ∷ key.Status ∷ key.Rolls ∷ key.SubmitAt ∷ []
 
 abbrev pub is_known : List ℕ → Bool
 is_known text = list_any (λ name. bytes_eq text (text_of name)) all_keys

@@ -6,6 +6,7 @@ pub mod Different
 pub mod Submits
 pub mod Paths
 pub mod Doors
+pub mod Journals
 pub mod Peers
 pub mod Publishers
 pub mod Lists

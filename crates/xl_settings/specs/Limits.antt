@@ -26,6 +26,13 @@ least_heartbeat_ms = 100
 abbrev pub greatest_heartbeat_ms : ℕ
 greatest_heartbeat_ms = 10000
 
+-- how many bytes of a journal are written to its file if its settings don't say, and at most
+abbrev pub usual_journal_bytes : ℕ
+usual_journal_bytes = 1000000000
+
+abbrev pub greatest_journal_bytes : ℕ
+greatest_journal_bytes = 1000000000000
+
 -- the most milliseconds that a run with an end may take
 abbrev pub greatest_run_ms : ℕ
 greatest_run_ms = 1000000000000

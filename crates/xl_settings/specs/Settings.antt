@@ -1,5 +1,5 @@
 -- The settings that bytes hold at a moment, or why they hold none. Source: this project's own format; documents are those of TOML.
-use Rattle.std.specs.Prelude.{ℕ, nat_lt, Bool, true, false, List, [], length, Option, Some, None, Result, Ok, Err, if◌then◌else◌}
+use Rattle.std.specs.Prelude.{ℕ, nat_lt, Bool, true, List, [], length, Option, Some, None, Result, Ok, Err, if◌then◌else◌}
 use Rattle.std.specs.Option.{option_and_then}
 use Rattle.std.specs.Str.{is_utf8}
 use Rattle.toml.specs.Data.{Members, as_bool}
@@ -13,11 +13,15 @@ use Rattle.xl_settings.specs.Limits.{most_bytes, usual_limit, usual_turns, great
 use Rattle.xl_settings.specs.declared.refusal.SettingsRefusal.{SettingsRefusal}
 use Rattle.xl_settings.specs.declared.refusal.SettingsRefusal.TheVariants.{Length, Text, Unknown, Known}
 use Rattle.xl_settings.specs.declared.settings.Settings.{Settings}
+use Rattle.xl_settings.specs.declared.stated.Stated.{Stated}
+use Rattle.xl_settings.specs.declared.table.Basis.{Basis}
+use Rattle.xl_settings.specs.declared.trust.Trust.{Trust}
 use Rattle.xl_settings.specs.Doors.{submit_at}
+use Rattle.xl_settings.specs.Journals.{journal_at, journal_bytes_at, journal_file_at, journal_keys_at}
 use Rattle.xl_settings.specs.Keys.{least_unknown}
 use Rattle.xl_settings.specs.Lists.{members_at, stated_at, met_by, trust_of}
 use Rattle.xl_settings.specs.Paths.{rolls_path_at, status_at}
-use Rattle.xl_settings.specs.Peers.{peers_in}
+use Rattle.xl_settings.specs.Peers.{PeerSetting, peers_in}
 use Rattle.xl_settings.specs.Publishers.{publishers_at, threshold_at, rolls_at, taken_in}
 use Rattle.xl_settings.specs.Submits.{submits_in}
 use Rattle.xl_settings.specs.Values.{at, whole, or_default}
@@ -49,15 +53,50 @@ run_at table = or_default 0 (whole 0 greatest_run_ms) (at key.RunMs table)
 abbrev pub speak_at : Members → Option ℕ
 speak_at table = or_default usual_speak (whole usual_speak greatest_speak) (at key.Speak table)
 
-abbrev pub journal_at : Members → Option Bool
-journal_at table = or_default false as_bool (at key.Journal table)
-
--- whether a journal that is written holds keys and tags
-abbrev pub journal_keys_at : Members → Option Bool
-journal_keys_at table = or_default true as_bool (at key.JournalKeys table)
-
 abbrev pub submits_at : Members → Option (List TxId)
 submits_at table = or_default [] submits_in (at key.Submit table)
+
+-- what it writes, and where, at the end of its keys
+abbrev pub with_outlets : Members → Basis → Trust → List PeerSetting → ℕ → Result Settings SettingsRefusal
+with_outlets table basis trust peers speak =
+    needs key.Journal (journal_at table) (λ journal.
+    needs key.JournalKeys (journal_keys_at table) (λ with_keys.
+    needs key.JournalFile (journal_file_at table) (λ file.
+    needs key.JournalBytes (journal_bytes_at table) (λ bytes.
+    needs key.Status (status_at table) (λ status.
+    needs key.Rolls (rolls_path_at table) (λ looked_at.
+    needs key.SubmitAt (submit_at table) (λ address.
+    Ok (record {
+      me = basis.me;
+      list = trust.list;
+      validating = basis.validating;
+      limit = basis.limit;
+      turns = basis.turns;
+      heartbeat_ms = basis.heartbeat_ms;
+      run_ms = basis.run_ms;
+      submit = basis.submit;
+      peers = peers;
+      speak = speak;
+      publishing = trust.publishing;
+      journal = journal;
+      journal_keys = with_keys;
+      journal_file = file;
+      journal_bytes = bytes;
+      status = status;
+      rolls = looked_at;
+      submit_at = address;
+    }))))))))
+
+-- whom it trusts, and the peers by which it is met
+abbrev pub with_trust : Members → ℕ → Basis → Stated → Result Settings SettingsRefusal
+with_trust table now basis stated =
+    needs key.Peer (peers_in basis.me (met_by stated (taken_in table)) (at key.Peer table)) (λ peers.
+    needs key.Speak (speak_at table) (λ speak.
+    needs key.Publisher (publishers_at table) (λ publishers.
+    needs key.Threshold (threshold_at (length publishers) table) (λ threshold.
+    needs key.Roll (rolls_at table) (λ rolls.
+    needs key.Roll (trust_of stated (taken_in table) threshold now) (λ trust.
+    with_outlets table basis trust peers speak))))))
 
 -- key by key: the first that is missing though required, of another type, out of range or refused decides
 abbrev pub in_table : Members → ℕ → Result Settings SettingsRefusal
@@ -71,35 +110,15 @@ in_table table now =
     needs key.HeartbeatMs (heartbeat_at table) (λ heartbeat_ms.
     needs key.RunMs (run_at table) (λ run_ms.
     needs key.Submit (submits_at table) (λ submit.
-    needs key.Peer (peers_in me (met_by stated (taken_in table)) (at key.Peer table)) (λ peers.
-    needs key.Speak (speak_at table) (λ speak.
-    needs key.Publisher (publishers_at table) (λ publishers.
-    needs key.Threshold (threshold_at (length publishers) table) (λ threshold.
-    needs key.Roll (rolls_at table) (λ rolls.
-    needs key.Roll (trust_of stated (taken_in table) threshold now) (λ trust.
-    needs key.Journal (journal_at table) (λ journal.
-    needs key.JournalKeys (journal_keys_at table) (λ with_keys.
-    needs key.Status (status_at table) (λ status.
-    needs key.Rolls (rolls_path_at table) (λ looked_at.
-    needs key.SubmitAt (submit_at table) (λ address.
-    Ok (record {
+    with_trust table now (record {
       me = me;
-      list = trust.list;
       validating = validating;
       limit = limit;
       turns = turns;
       heartbeat_ms = heartbeat_ms;
       run_ms = run_ms;
       submit = submit;
-      peers = peers;
-      speak = speak;
-      publishing = trust.publishing;
-      journal = journal;
-      journal_keys = with_keys;
-      status = status;
-      rolls = looked_at;
-      submit_at = address;
-    })))))))))))))))))))))
+    }) stated)))))))))
 
 abbrev pub unless_unknown : Members → ℕ → Option (List ℕ) → Result Settings SettingsRefusal
 unless_unknown table now (Some text) = Err (Unknown text)

@@ -11,6 +11,7 @@ mod document;
 mod door;
 mod entry;
 mod fault;
+mod journal;
 mod key_name;
 mod limits;
 mod line;
@@ -35,8 +36,9 @@ pub use document::read_settings;
 pub use fault::SettingsFault;
 pub use key_name::KeyName;
 pub use limits::{
-    GREATEST_HEARTBEAT_MS, GREATEST_RUN_MS, GREATEST_TURNS, LEAST_HEARTBEAT_MS, MOST_BYTES,
-    USUAL_HEARTBEAT_MS, USUAL_LIMIT, USUAL_TURNS,
+    GREATEST_HEARTBEAT_MS, GREATEST_JOURNAL_BYTES, GREATEST_RUN_MS, GREATEST_TURNS,
+    LEAST_HEARTBEAT_MS, MOST_BYTES, USUAL_HEARTBEAT_MS, USUAL_JOURNAL_BYTES, USUAL_LIMIT,
+    USUAL_TURNS,
 };
 pub use line::write_refusal;
 pub use peers::{Peer, Peers};

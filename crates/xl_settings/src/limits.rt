@@ -27,5 +27,11 @@ pub const USUAL_SPEAK: u8 = 1;
 /// The greatest version of a node's validations.
 pub const GREATEST_SPEAK: u8 = 2;
 
+/// How many bytes of a journal are written to its file where the settings don't say.
+pub const USUAL_JOURNAL_BYTES: u64 = 1_000_000_000;
+
+/// The most bytes of a journal that may be written to its file.
+pub const GREATEST_JOURNAL_BYTES: u64 = 1_000_000_000_000;
+
 /// The most milliseconds that a run with an end may take.
 pub const GREATEST_RUN_MS: Millis = 1_000_000_000_000;

@@ -47,7 +47,7 @@ fn rolls_in(
 }
 
 /// The path that a value is.
-fn path_in(alloc: Global, value: &Value) -> Result<Option<Option<FilePath>>, OutOfMemory>
+pub fn path_in(alloc: Global, value: &Value) -> Result<Option<Option<FilePath>>, OutOfMemory>
     ensures { IfOk result (λ path. path ≡ path_in (view value.now)) }
 {
     match value.as_str() {

@@ -33,6 +33,10 @@ pub struct Settings {
     pub journal: bool,
     /// Whether a journal that is written holds keys and tags. One that is handed on is best without.
     pub journal_keys: bool,
+    /// The file to which its journal is written as it goes, if it is. It isn't written behind the run then.
+    pub journal_file: Option<FilePath>,
+    /// How many bytes of its journal are written to that file: 1 to 1,000,000,000,000.
+    pub journal_bytes: u64,
     /// Where its status is told, if it is.
     pub status: Option<FilePath>,
     /// The text of rolls that is looked at while it runs, if one is. There are publishers then.

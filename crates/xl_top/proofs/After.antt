@@ -231,6 +231,19 @@ cause_among KeepFault A B C D cause = absurd cause
 cause_among NetFault A B C D cause = absurd cause
 cause_among StoreFull A B C D cause = tt
 
+-- and a failed write may be another's
+pub cause_or : (s : Status) (A B X C D : Type 0) → HasCause s A B C D → HasCause s A (B ⊎ X) C D
+cause_or Done A B X C D cause = tt
+cause_or Fork A B X C D cause = tt
+cause_or WordsRefused A B X C D cause = tt
+cause_or InputRefused A B X C D cause = tt
+cause_or ReadFault A B X C D cause = cause
+cause_or WriteFault A B X C D cause = inl cause
+cause_or OutOfMemory A B X C D cause = tt
+cause_or KeepFault A B X C D cause = cause
+cause_or NetFault A B X C D cause = cause
+cause_or StoreFull A B X C D cause = tt
+
 -- nothing is told before the first byte
 quiet : (telling : Telling) → (promise_by telling).soon [] ≡ silence
 unfolding soon_from soon_in

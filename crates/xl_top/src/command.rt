@@ -12,7 +12,8 @@ ghost use Rattle.xl_texts.specs.Streams.{streams};
 ghost use Rattle.xl_top.specs.Undone.{IsUndone};
 ghost use Rattle.xl_workers.specs.Linking.{hub_seen};
 ghost use Rattle.xl_validator.specs.Ends.{IsQuiet};
-ghost use Rattle.xl_validator.specs.Tellings.{IsBoardRefused, Tells};
+ghost use Rattle.xl_validator.specs.Following.{EndsWith, HasFailed, Writes};
+ghost use Rattle.xl_validator.specs.Tellings.{IsPathRefused, Tells};
 ghost use Rattle.xl_validator.specs.Validators.{Judges, between};
 ghost use Rattle.xl_words.specs.Commands.{words_of};
 
@@ -32,7 +33,8 @@ use xl_words::{Command, Telling, WordsFault};
 /// The words begin with the program's name. They may ask for `replay`, `node`, `show`, `lists`, `merge`, `audit`,
 /// `blame`, `flags`, `negative` or `gen`, for help, or for the version. Keeper, hub, boards, and the host's clock and gate
 /// are those of `node`. The keeper comes back, and so does the journal of the node's store, if one was opened and isn't
-/// written, and the board on which it told how it is, if its settings name one.
+/// written, the board on which it told how it is, if its settings name one, and what wrote the journal to a file, if they
+/// name that.
 pub fn top<
     W: Threads + Wait + Files + Sync,
     I: Source,
@@ -50,7 +52,7 @@ pub fn top<
     keeper: K,
     hub: &mut H,
     boards: &mut P,
-) -> Ended<K, P::D>
+) -> Ended<K, P::D, P::J>
     // Words that ask nothing are refused, and only they, or memory runs out. Nothing is read or written then.
     ensures words { result.status ≡ Status.WordsRefused → asked_of (words_of words.now) ≡ None }
     ensures unasked { asked_of (words_of words.now) ≡ None
@@ -77,18 +79,19 @@ pub fn top<
     // Of `node`: its settings are judged at one moment that the clock may give. If they are refused no store is opened,
     // the keeper is asked nothing, and of their line a front is written. Others run a node that is opened at that moment,
     // or nothing is written and no save is asked. The journal of the node is handed back, or, if the settings ask for it
-    // and the run is over, written behind the reports. Or the settings name a board that can't be opened, which refuses
-    // them. Else memory ran out before the clock was asked, and nothing was done.
+    // and the run is over, written behind the reports. Or the settings name a board or a file that can't be opened, which
+    // refuses them. The status is the one of that, if no recorder met a fault. Else memory ran out before the clock was
+    // asked, and nothing was done.
     ensures node { asked_of (words_of words.now) ≡ Some Command.Node
-        → Judges K.held K.saves K.faults K.load_gives K.save_gives
+        → EndsWith (λ ended. Judges K.held K.saves K.faults K.load_gives K.save_gives
         (I.left input.old) (C.may_give host.now.clock.now) (H.gives hub.old)
         (between (hub_seen (H.faults hub.old) (H.asked hub.old)) (hub_seen (H.faults hub.new) (H.asked hub.new))
         (O.held output.old) (O.faults output.old) (O.held output.new) (O.faults output.new))
-        output.old output.new keeper result.keeper result.status result.journal
-        ⊎ IsBoardRefused (I.left input.old) (C.may_give host.now.clock.now)
+        output.old output.new keeper result.keeper ended result.journal
+        ⊎ IsPathRefused (I.left input.old) (C.may_give host.now.clock.now)
         (Rose (P.faults boards.old) (P.faults boards.new))
         ((result.keeper ≡ keeper) × (hub.new ≡ hub.old))
-        result.journal result.status (O.held output.old) (O.held output.new)
+        result.journal ended (O.held output.old) (O.held output.new)) result.recorder result.status
         ⊎ IsUndone result.status result.journal (input.new ≡ input.old) (output.new ≡ output.old)
         (result.keeper ≡ keeper) (hub.new ≡ hub.old) }
     // What it told on the board of its settings, which shows how its core was at places of its history.
@@ -97,22 +100,28 @@ pub fn top<
         (Rose (P.faults boards.old) (P.faults boards.new)) (boards.new ≡ boards.old)
         (I.left input.old) (C.may_give host.now.clock.now) result.journal result.status result.bulletin
         ⊎ ((result.status ≡ Status.OutOfMemory) × (result.bulletin ≡ None) × (boards.new ≡ boards.old)) }
+    // What stands in the file that its settings name for the journal: the text of that, or a front of it.
+    ensures recorded { asked_of (words_of words.now) ≡ Some Command.Node
+        → Writes P.J.Sink.held P.J.Sink.faults
+        (I.left input.old) (C.may_give host.now.clock.now) result.journal result.recorder
+        ⊎ ((result.status ≡ Status.OutOfMemory) × (result.recorder ≡ None) × (boards.new ≡ boards.old)) }
     // Its status says how its run ended.
     ensures ends { asked_of (words_of words.now) ≡ Some Command.Node
         → EndsSo (I.left input.old) (C.may_give host.now.clock.now)
         (IsQuiet (I.faults input.old) (I.faults input.new) × IsQuiet (O.faults output.old) (O.faults output.new)
         × IsQuiet (K.faults keeper) (K.faults result.keeper) × IsQuiet (H.faults hub.old) (H.faults hub.new)
-        × IsQuiet (P.faults boards.old) (P.faults boards.new))
+        × IsQuiet (P.faults boards.old) (P.faults boards.new) × (HasFailed result.recorder → ⊥))
         result.status result.journal }
     // A journal is that of a node.
     ensures node_ran { IfSome result.journal (λ _. asked_of (words_of words.now) ≡ Some Command.Node) }
-    // Every other command leaves keeper and hub, and opens no board.
+    // Every other command leaves keeper and hub, and opens no board and no file.
     ensures others { asked_of (words_of words.now) ≢ Some Command.Node
         → (result.keeper ≡ keeper) × (hub.new ≡ hub.old) × (result.journal ≡ None)
-        × (boards.new ≡ boards.old) × (result.bulletin ≡ None) }
+        × (boards.new ≡ boards.old) × (result.bulletin ≡ None) × (result.recorder ≡ None) }
     // A status that names a fault is answered only if a call of that kind failed.
     ensures cause { HasCause result.status (Rose (I.faults input.old) (I.faults input.new))
-        (Rose (O.faults output.old) (O.faults output.new)) (Rose (K.faults keeper) (K.faults result.keeper))
+        (Rose (O.faults output.old) (O.faults output.new) ⊎ HasFailed result.recorder)
+        (Rose (K.faults keeper) (K.faults result.keeper))
         (Rose (H.faults hub.old) (H.faults hub.new)) }
     ensures store { result.status ≡ Status.StoreFull → asked_of (words_of words.now) ≡ Some Command.Node }
 {

@@ -10,7 +10,6 @@ use Rattle.xl_turns.specs.Histories.{IsLegal}
 use Rattle.xl_core.specs.Core.{Core}
 use Rattle.xl_store.specs.declared.entry.Entry.{Entry}
 use Rattle.xl_store.specs.Entries.{Leads}
-use Rattle.xl_store.specs.Pages.{entries_if}
 use Rattle.xl_heartbeat.specs.Outputs.{Output}
 use Rattle.xl_audit.specs.Journals.{start_of}
 use Rattle.xl_audit.specs.Rereading.{SaysYes}
@@ -192,19 +191,6 @@ module _ {K O : Type 0}
               let same = left not_so in
               stays (ap (λ (b : Bool). is_written b ended) (sym is) ∙ not_so) same.0 same.1 same.2 (silent same.2)
         ] refl
-
--- WHAT WAS KEPT
-
--- if it was asked, all entries of a run were kept
-pub kept_there : {R S : Type 0} (ran : Result R S) (entries_of : R → Option (List Entry)) (history_of : R → List Entry)
-    (entries journal : Option (List Entry)) (keeps asked : Bool)
-    → MatchResult ran (λ r. entries ≡ entries_of r) (λ _. entries ≡ None)
-    → MatchResult ran (λ r. journal ≡ Some (history_of r)) (λ _. journal ≡ None)
-    → IfOk ran (λ r. entries_of r ≡ entries_if keeps (history_of r))
-    → keeps ≡ asked → asked ≡ true → entries ≡ journal
-kept_there (Ok r) entries_of history_of entries journal keeps asked left handed kept same is =
-    left ∙ kept ∙ ap (λ (b : Bool). entries_if b (history_of r)) (same ∙ is) ∙ sym handed
-kept_there (Err s) entries_of history_of entries journal keeps asked left handed kept same is = left ∙ sym handed
 
 -- WHAT A JOURNAL BEGINS WITH
 

@@ -10,3 +10,5 @@ pub mod Beating
 pub mod Ending
 pub mod Behind
 pub mod Told
+pub mod Statuses
+pub mod Filed

@@ -152,3 +152,19 @@ module _ {K O : Type 0}
     ran = no_run _ journal none;
     unopened = λ _. inl (known, ap saves_of kept, still, some_any input (λ bytes. any_ok (settings_of bytes moment) (λ s. same)));
   }
+
+-- what holds of a keeper and a journal holds of equal ones
+pub judged_moved : {K O : Type 0}
+    (held_by : K → Option Held) (saves_of : K → Option (List ℕ)) (faults_of : K → ℕ)
+    (load_gives : K → ℕ → K → Type 0) (save_gives : K → ℕ → Bool → K → Type 0)
+    (input : Option (List ℕ)) (may_give : ℕ → Bool) (links : Offers) (outside : Between)
+    (old_output new_output : O) (old : K) (end : Status) (new other : K) (journal handed : Option (List Entry))
+    → other ≡ new → handed ≡ journal
+    → Judges held_by saves_of faults_of load_gives save_gives input may_give links outside old_output new_output old new end journal
+    → Judges held_by saves_of faults_of load_gives save_gives input may_give links outside old_output new_output old other end handed
+judged_moved {K} held_by saves_of faults_of load_gives save_gives input may_give links outside old_output new_output old end new
+    other journal handed kept back judged =
+    subst (λ (k : K). Judges held_by saves_of faults_of load_gives save_gives input may_give links outside
+    old_output new_output old k end handed) (sym kept)
+    (subst (λ (j : Option (List Entry)). Judges held_by saves_of faults_of load_gives save_gives input may_give links outside
+    old_output new_output old new end j) (sym back) judged)

@@ -10,13 +10,19 @@ use Rattle.xl_store.specs.Entries.{life_of}
 use Rattle.xl_store.specs.Statuses.{status_of}
 use Rattle.xl_heartbeat.specs.declared.bulletin.Bulletin.{Bulletin}
 use Rattle.xl_heartbeat.specs.Bulletins.{TellsEnd, ToldIf}
+use Rattle.xl_settings.specs.declared.key_name.KeyName.{KeyName}
+use Rattle.xl_settings.specs.declared.key_name.KeyName.TheVariants as key
 use Rattle.xl_settings.specs.declared.refusal.SettingsRefusal.{SettingsRefusal}
 use Rattle.xl_settings.specs.declared.settings.Settings.{Settings}
 use Rattle.xl_settings.specs.Settings.{settings_of}
+use Rattle.xl_recorder.specs.declared.record_end.RecordEnd.{RecordEnd}
+use Rattle.xl_validator.specs.Following.{status_with}
 use Rattle.xl_validator.specs.Openings.{opening_core}
+use Rattle.xl_validator.specs.Reaching.{IsNamed}
 use Rattle.xl_validator.specs.Recordings.{is_over, is_written}
 use Rattle.xl_validator.specs.Tellings.{HasNoBoard, HasTold, IsBoardless, IsOpened, IsOpenedAt, Tells, TellsOfEnd, TellsSo}
 use Rattle.xl_validator.proofs.Refusing.{some_any, some_map}
+use Rattle.xl_validator.proofs.Statuses.{keeps_memory}
 
 -- a run that memory ended isn't written
 unwritten : (asked : Bool) (ended : Status) → ended ≡ status.OutOfMemory → is_written asked ended ≡ false
@@ -74,7 +80,7 @@ module _ {D : Type 0} (gives : D → List ℕ → Bool → D → Type 0) (s : Se
 
   pub of_either : {R S X : Type 0} (kept : ℕ) (ran : Result R S) (history_of : R → List Entry) (core_of : R → Core)
       (end_of : R → Status) (core : Core) (first mid last : Option (Bulletin D)) (at_end : Option NodeStatus)
-      (left : Option (List Entry)) (asked : Bool) (ended : Status)
+      (left : Option (List Entry)) (asked : Bool) (ended settled : Status) (w : Option RecordEnd)
       → core ≡ opening_core s moment kept
       → IfOk ran (λ r. core_of r ≡ core_after core (life_of (history_of r)))
       → IfOk ran (λ r. ToldIf gives core first (history_of r) mid)
@@ -82,40 +88,69 @@ module _ {D : Type 0} (gives : D → List ℕ → Bool → D → Type 0) (s : Se
       → MatchResult ran (λ r. at_end ≡ Some (status_of (core_of r))) (λ _. at_end ≡ None)
       → MatchResult ran (λ r. left ≡ Some (history_of r)) (λ _. left ≡ None)
       → MatchResult ran (λ r. ended ≡ end_of r) (λ _. ended ≡ status.OutOfMemory)
-      → (is_written asked ended ≡ false → (end ≡ ended) × (journal ≡ left) × X)
-      → (is_written asked ended ≡ true → journal ≡ None)
+      → (is_written asked ended ≡ false → (settled ≡ ended) × (journal ≡ left) × X)
+      → (is_written asked ended ≡ true → journal ≡ None) → end ≡ status_with w settled
       → TellsOfEnd gives at_end end mid last
       → TellsSo gives s moment journal end first last
-  of_either kept (Ok r) history_of core_of end_of core first mid last at_end left asked ended opened lives told untold is
-      handed by stays goes ends =
+  of_either kept (Ok r) history_of core_of end_of core first mid last at_end left asked ended settled w opened lives told
+      untold is handed by stays goes with_it ends =
       of_run kept (history_of r) (core_of r) at_end first mid last
       (subst (λ (c : Core). core_of r ≡ core_after c (life_of (history_of r))) opened lives)
       (subst (λ (c : Core). ToldIf gives c first (history_of r) mid) opened told) is
       (handed_back (history_of r) left journal (is_written asked ended) handed (λ no. (stays no).1) goes) ends
-  of_either kept (Err e) history_of core_of end_of core first mid last at_end left asked ended opened lives told untold is
-      handed by stays goes ends =
+  of_either kept (Err e) history_of core_of end_of core first mid last at_end left asked ended settled w opened lives told
+      untold is handed by stays goes with_it ends =
       let kept_so = stays (unwritten asked ended by) in
-      of_none at_end first last is (kept_so.1 ∙ handed) (inr (kept_so.0 ∙ by))
+      of_none at_end first last is (kept_so.1 ∙ handed)
+      (inr (with_it ∙ ap (status_with w) (kept_so.0 ∙ by) ∙ keeps_memory w))
       (subst (λ (m : Option (Bulletin D)). TellsOfEnd gives at_end end m last) untold ends)
 
 -- ---- the whole command
 
-at_ok : (r : Result Settings SettingsRefusal) (s : Settings) → r ≡ Ok s
+pub at_ok : (r : Result Settings SettingsRefusal) (s : Settings) → r ≡ Ok s
     → (A : Settings → Type 0) (B : SettingsRefusal → Type 0) → A s → MatchResult r A B
 at_ok r s is A B a = subst (λ (x : Result Settings SettingsRefusal). MatchResult x A B) (sym is) a
 
-at_err : (r : Result Settings SettingsRefusal) (why : SettingsRefusal) → r ≡ Err why
+pub at_err : (r : Result Settings SettingsRefusal) (why : SettingsRefusal) → r ≡ Err why
     → (A : Settings → Type 0) (B : SettingsRefusal → Type 0) → B why → MatchResult r A B
 at_err r why is A B b = subst (λ (x : Result Settings SettingsRefusal). MatchResult x A B) (sym is) b
 
-at_any : (r : Result Settings SettingsRefusal) (A : Settings → Type 0) (B : SettingsRefusal → Type 0)
+pub at_any : (r : Result Settings SettingsRefusal) (A : Settings → Type 0) (B : SettingsRefusal → Type 0)
     → ((s : Settings) → A s) → ((why : SettingsRefusal) → B why) → MatchResult r A B
 at_any (Ok s) A B a b = a s
 at_any (Err why) A B a b = b why
 
-none_named : (path : Option (List ℕ)) → path ≡ None → IsSome path → ⊥
+pub none_named : (path : Option (List ℕ)) → path ≡ None → IsSome path → ⊥
 none_named None is some = absurd cc
 none_named (Some p) is some = cc
+
+-- settings whose path can't be opened name one
+pub is_named : (s : Settings) (name : KeyName) → IsNamed s name → s.status ≡ None → s.journal_file ≡ None → ⊥
+is_named s key.Status named unnamed no_file = none_named s.status unnamed named
+is_named s key.JournalFile named unnamed no_file = none_named s.journal_file no_file named
+is_named s key.Me named unnamed no_file = named
+is_named s key.List named unnamed no_file = named
+is_named s key.Quorum named unnamed no_file = named
+is_named s key.Validating named unnamed no_file = named
+is_named s key.Limit named unnamed no_file = named
+is_named s key.Turns named unnamed no_file = named
+is_named s key.HeartbeatMs named unnamed no_file = named
+is_named s key.RunMs named unnamed no_file = named
+is_named s key.Submit named unnamed no_file = named
+is_named s key.Peer named unnamed no_file = named
+is_named s key.Speak named unnamed no_file = named
+is_named s key.Publisher named unnamed no_file = named
+is_named s key.Threshold named unnamed no_file = named
+is_named s key.Roll named unnamed no_file = named
+is_named s key.Journal named unnamed no_file = named
+is_named s key.JournalKeys named unnamed no_file = named
+is_named s key.JournalBytes named unnamed no_file = named
+is_named s key.Rolls named unnamed no_file = named
+is_named s key.SubmitAt named unnamed no_file = named
+
+pub is_either : (s : Settings) → IsSome s.status ⊎ IsSome s.journal_file → s.status ≡ None → s.journal_file ≡ None → ⊥
+is_either s (inl named) unnamed no_file = none_named s.status unnamed named
+is_either s (inr named) unnamed no_file = none_named s.journal_file no_file named
 
 -- refused settings end so, and so does a board that can't be opened
 pub boardless : (failed : Type 0) (end told : Status) → end ≡ told
@@ -138,7 +173,7 @@ module _ {D : Type 0} (gives : D → List ℕ → Bool → D → Type 0) (stands
   Unread why = (last ≡ None) × untouched
 
   abbrev Unasked : Settings → Type 0
-  Unasked s = s.status ≡ None → (last ≡ None) × untouched
+  Unasked s = s.status ≡ None → (last ≡ None) × (s.journal_file ≡ None → untouched)
 
   abbrev Nothing : SettingsRefusal → Type 0
   Nothing why = Unit {0}
@@ -155,7 +190,7 @@ module _ {D : Type 0} (gives : D → List ℕ → Bool → D → Type 0) (stands
 
   -- a node ran by them, or should have
   pub tells_by : (s : Settings) (first : Option (Bulletin D)) → IfSome input (λ bytes. settings_of bytes moment ≡ Ok s)
-      → IsOpened stands_on stands_at s moment first → (s.status ≡ None → untouched)
+      → IsOpened stands_on stands_at s moment first → (s.status ≡ None → s.journal_file ≡ None → untouched)
       → TellsSo gives s moment journal end first last → HasAll
   tells_by s first are opened untouched tells = record {
     moment = moment;
@@ -166,16 +201,16 @@ module _ {D : Type 0} (gives : D → List ℕ → Bool → D → Type 0) (stands
         (λ none. (none_last s first (none_first s.status s first none opened) tells, untouched none))) are;
   }
 
-  -- their board wasn't opened
-  pub tells_none : (s : Settings) → IfSome input (λ bytes. settings_of bytes moment ≡ Ok s) → IsSome s.status
-      → last ≡ None → journal ≡ None → IsBoardless failed end → HasAll
+  -- their board or their file wasn't opened
+  pub tells_none : (s : Settings) → IfSome input (λ bytes. settings_of bytes moment ≡ Ok s)
+      → (s.status ≡ None → s.journal_file ≡ None → ⊥) → last ≡ None → journal ≡ None → IsBoardless failed end → HasAll
   tells_none s are named none unopened cause = record {
     moment = moment;
     given = given;
     by = some_map input (λ bytes is. at_ok (settings_of bytes moment) s is By Unread
         (inr (record { none = none; unopened = unopened; cause = cause }))) are;
     unasked = some_map input (λ bytes is. at_ok (settings_of bytes moment) s is Unasked Nothing
-        (λ no. absurd (none_named s.status no named))) are;
+        (λ no. (none, λ no_file. absurd (named no no_file)))) are;
   }
 
   -- they are refused
@@ -196,5 +231,5 @@ module _ {D : Type 0} (gives : D → List ℕ → Bool → D → Type 0) (stands
     by = some_any input (λ bytes. at_any (settings_of bytes moment) By Unread
         (λ s. inr (record { none = none; unopened = unopened; cause = cause })) (λ why. (none, still)));
     unasked = some_any input (λ bytes. at_any (settings_of bytes moment) Unasked Nothing
-        (λ s no. (none, still)) (λ why. tt));
+        (λ s no. (none, λ no_file. still)) (λ why. tt));
   }

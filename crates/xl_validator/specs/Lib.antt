@@ -5,4 +5,6 @@ pub mod ListsSet
 pub mod Recordings
 pub mod Ends
 pub mod Validators
+pub mod Following
+pub mod Reaching
 pub mod Tellings

@@ -1,5 +1,5 @@
 -- What the command `node` tells on a board. Source: this project's own.
-use Rattle.std.specs.Prelude.{◌≡◌, ◌⊎◌, ℕ, Bool, true, List, Some, None, Ok, IfSome, IsSome, MatchResult}
+use Rattle.std.specs.Prelude.{◌≡◌, ◌⊎◌, ℕ, Bool, true, List, Some, None, Ok, IfSome, MatchResult}
 use Rattle.std.specs.declared.option.Option.{Option}
 use Rattle.xl_base.specs.declared.status.Status.{Status}
 use Rattle.xl_base.specs.declared.status.Status.TheVariants as status
@@ -13,11 +13,12 @@ use Rattle.xl_status.specs.Hearings.{unheard_since}
 use Rattle.xl_heartbeat.specs.declared.bulletin.Bulletin.{Bulletin}
 use Rattle.xl_heartbeat.specs.Bulletins.{TellsEnd, TellsUnopened, Told}
 use Rattle.xl_settings.specs.declared.settings.Settings.{Settings}
-use Rattle.xl_settings.specs.declared.key_name.KeyName.TheVariants as key
+use Rattle.xl_settings.specs.declared.key_name.KeyName.{KeyName}
 use Rattle.xl_settings.specs.declared.refusal.SettingsRefusal.TheVariants.{Known}
 use Rattle.xl_settings.specs.Lines.{refusal_line}
 use Rattle.xl_settings.specs.Settings.{settings_of}
 use Rattle.xl_validator.specs.Openings.{opening_core}
+use Rattle.xl_validator.specs.Reaching.{IsNamed}
 use Rattle.xl_validator.specs.Validators.{IsRefused}
 
 -- what a node is run with
@@ -80,7 +81,8 @@ module _ {D : Type 0} (gives : D → List ℕ → Bool → D → Type 0) where
   TellsSo s moment journal end (Some first) (Some last) =
       TellsRun s moment journal end first last ⊎ TellsNone journal end first last
 
--- a status if the board of the settings wasn't opened: it can't be, which refuses them, or the settings weren't known
+-- a status if the board or the file of the settings wasn't opened: it can't be, which refuses them, or the settings weren't
+-- known
 abbrev pub IsBoardless : Type 0 → Status → Type 0
 IsBoardless failed status.InputRefused = failed
 IsBoardless failed status.WriteFault = failed
@@ -112,21 +114,22 @@ module _ {D : Type 0} (gives : D → List ℕ → Bool → D → Type 0) (stands
     pub by : IfSome input (λ bytes. MatchResult (settings_of bytes moment)
         (λ s. HasTold s moment journal end last ⊎ HasNoBoard s journal end last)
         (λ _. (last ≡ None) × untouched))
-    -- settings that name no board open none
+    -- settings that name no board open none, and without a file for a journal nothing is opened
     pub unasked : IfSome input (λ bytes. MatchResult (settings_of bytes moment)
-        (λ s. s.status ≡ None → (last ≡ None) × untouched) (λ _. Unit {0}))
+        (λ s. s.status ≡ None → (last ≡ None) × (s.journal_file ≡ None → untouched)) (λ _. Unit {0}))
 
--- The board that the settings name can't be opened. That refuses them, and their line is told: no store is opened, and
--- keeper and hub are asked nothing
-pub record IsBoardRefused (input : Option (List ℕ)) (may_give : ℕ → Bool) (has_failed is_untouched : Type 0)
+-- The board that the settings name can't be opened, or the file. That refuses them, and their line is told: no store is
+-- opened, and keeper and hub are asked nothing
+pub record IsPathRefused (input : Option (List ℕ)) (may_give : ℕ → Bool) (has_failed is_untouched : Type 0)
     (journal : Option (List Entry)) (end : Status) (old new : Option (List ℕ)) : Type 0 where
   pub moment : ℕ
   pub given : may_give moment ≡ true
   pub settings : Settings
   pub read : IfSome input (λ bytes. settings_of bytes moment ≡ Ok settings)
-  pub named : IsSome settings.status
+  pub name : KeyName
+  pub named : IsNamed settings name
   pub failed : has_failed
   pub unopened : journal ≡ None
   pub untouched : is_untouched
-  pub line : IsRefused (refusal_line (Known key.Status)) end old new
+  pub line : IsRefused (refusal_line (Known name)) end old new
   pub cause : (end ≡ status.InputRefused) ⊎ (end ≡ status.WriteFault)

@@ -2,6 +2,7 @@
 ghost use Rattle.std.specs.Prelude.{◌≡◌, ◌≤◌, IfOk, option_map};
 ghost use Rattle.xl_base.specs.Moments.{greatest_millis};
 ghost use Rattle.xl_settings.specs.Runnable.{AreRunnable};
+ghost use Rattle.xl_validator.specs.Following.{retention_of};
 ghost use Rattle.xl_validator.specs.ListsSet.{AreEverKeyed};
 ghost use Rattle.xl_validator.specs.Openings.{opening_core, rolls_at, rolls_of, task_of, timing_of};
 ghost use Rattle.xl_validator.specs.Preparing.{IsPlan, IsReady, task_in};
@@ -15,6 +16,7 @@ use xl_board::FilePath;
 use xl_core::Core;
 use xl_heartbeat::{Pulse, RollsText, Timing};
 use xl_settings::{Peers, Settings};
+use xl_store::Retention;
 use xl_trie::Trie;
 use xl_workers::Plan;
 
@@ -33,19 +35,20 @@ pub(crate) struct Prepared {
 }
 
 /// Opens the core of the settings at their moment, with the number that was kept. Its store keeps entries only if the
-/// journal is to be written.
+/// journal is to be written, behind the run or as it comes.
 pub(crate) fn prepare(alloc: Global, judged: Judged, kept: Seq) -> Result<Prepared, OutOfMemory>
     requires runnable { AreRunnable judged.settings }
     requires moment { judged.now ≤ greatest_millis }
     ensures core { IfOk result (λ prepared. prepared.core ≡ opening_core judged.settings judged.now kept) }
     ensures task { IfOk result (λ prepared. task_in prepared.plan ≡ task_of judged.settings judged.now) }
     ensures ready { IfOk result IsReady }
-    ensures keeps { IfOk result (λ prepared. prepared.plan.keeps ≡ judged.settings.journal) }
+    ensures keeps { IfOk result (λ prepared. prepared.plan.retention ≡ retention_of judged.settings) }
     ensures keyed { IfOk result (λ prepared.
         AreEverKeyed (rolls_of judged.settings) judged.settings.publishing prepared.core) }
 {
     let Judged { settings, now } = judged;
     let timing = timing_of(&settings, now);
+    let retention = retention_of(&settings);
     let Settings {
         me,
         list,
@@ -58,8 +61,10 @@ pub(crate) fn prepare(alloc: Global, judged: Judged, kept: Seq) -> Result<Prepar
         peers,
         speak,
         publishing,
-        journal,
+        journal: _,
         journal_keys: _,
+        journal_file: _,
+        journal_bytes: _,
         status: _,
         rolls,
         submit_at,
@@ -78,7 +83,7 @@ pub(crate) fn prepare(alloc: Global, judged: Judged, kept: Seq) -> Result<Prepar
         validating,
         speak,
     };
-    let plan = plan_of(alloc, turns, journal, submit, peers, submit_at, pulse)?;
+    let plan = plan_of(alloc, turns, retention, submit, peers, submit_at, pulse)?;
     match Core::open(alloc, settings, now, kept) {
         Ok(core) => Ok(Prepared { core, plan }),
         Err(_) => Err(OutOfMemory),
@@ -94,6 +99,17 @@ fn timing_of(settings: &Settings, opened: Millis) -> Timing
         opened,
         every: settings.heartbeat_ms as u32,
         run: settings.run_ms,
+    }
+}
+
+/// Which entries its store keeps.
+fn retention_of(settings: &Settings) -> Retention
+    ensures { result ≡ retention_of settings.now }
+{
+    match (settings.journal, &settings.journal_file) {
+        (true, _) => Retention::Whole,
+        (false, Some(_)) => Retention::Passing,
+        (false, None) => Retention::Nothing,
     }
 }
 
@@ -114,14 +130,14 @@ fn rolls_text_of(me: NodeNo, peers: &Peers, path: Option<FilePath>) -> Option<Ro
 fn plan_of(
     alloc: Global,
     turns: u64,
-    keeps: bool,
+    retention: Retention,
     submit: TxIds,
     peers: Peers,
     door: Option<Bytes>,
     pulse: Pulse,
 ) -> Result<Plan, OutOfMemory>
     ensures plan { IfOk result (IsPlan turns submit peers door pulse) }
-    ensures keeps { IfOk result (λ plan. plan.keeps ≡ keeps) }
+    ensures keeps { IfOk result (λ plan. plan.retention ≡ retention) }
 {
     let submits = match Vec::from_slice(alloc, submit.as_slice()) {
         Ok(submits) => submits,
@@ -130,7 +146,7 @@ fn plan_of(
     match contacts_of(alloc, peers.into_vec()) {
         Ok(contacts) => Ok(Plan {
             turns,
-            keeps,
+            retention,
             submits,
             contacts,
             door,

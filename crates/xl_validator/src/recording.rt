@@ -41,7 +41,31 @@ pub(crate) struct Recording {
     ghost timely: { now ≤ greatest_millis },
 }
 
-/// What the journal of a run begins with, if the settings ask for it to be written.
+/// What a journal of these settings begins with.
+pub(crate) fn head_of(settings: &Settings, now: Millis, kept: Seq) -> Recording
+    requires runnable { AreRunnable settings.now }
+    requires moment { now ≤ greatest_millis }
+    ensures settings { result.settings ≡ core_settings settings.now }
+    ensures now { result.now ≡ now }
+    ensures kept { result.kept ≡ kept }
+    ensures with_keys { result.with_keys ≡ settings.now.journal_keys }
+{
+    Recording {
+        settings: xl_core::Settings {
+            me: settings.me,
+            list: settings.list.copy(),
+            keys: keys_of(settings.me, settings.peers.as_slice()),
+            limit: settings.limit,
+            validating: settings.validating,
+            speak: settings.speak,
+        },
+        now,
+        kept,
+        with_keys: settings.journal_keys,
+    }
+}
+
+/// What the journal of a run begins with, if the settings ask for it to be written behind the run.
 pub(crate) fn recording_of(settings: &Settings, now: Millis, kept: Seq) -> Option<Recording>
     requires runnable { AreRunnable settings.now }
     requires moment { now ≤ greatest_millis }
@@ -54,19 +78,7 @@ pub(crate) fn recording_of(settings: &Settings, now: Millis, kept: Seq) -> Optio
     if !settings.journal {
         return None;
     }
-    Some(Recording {
-        settings: xl_core::Settings {
-            me: settings.me,
-            list: settings.list.copy(),
-            keys: keys_of(settings.me, settings.peers.as_slice()),
-            limit: settings.limit,
-            validating: settings.validating,
-            speak: settings.speak,
-        },
-        now,
-        kept,
-        with_keys: settings.journal_keys,
-    })
+    Some(head_of(settings, now, kept))
 }
 
 /// Whether a run ended by its time, or since all turns of its store were drawn.

@@ -25,6 +25,7 @@ pub(crate) fn bulletin_of<P: Boards>(
         IsOpened (P.D.Board.stands) (P.stands boards.old) settings.now now bulletin) }
     ensures unasked { settings.now.status ≡ None → boards.new ≡ boards.old }
     ensures asked { OnErr result (IsSome settings.now.status) }
+    ensures later { P.faults boards.old ≤ P.faults boards.new }
     ensures failed { IfErr result (λ why. why ≡ NotOpened.Failed → Rose (P.faults boards.old) (P.faults boards.new)) }
 {
     let Some(path) = &settings.status else {

@@ -1,5 +1,5 @@
 -- the words ask one command, whose own promises are those of the program, and what reports say holds of any text
-use Rattle.std.proofs.Common.{◌≡◌, Option, Some, None, Err, List, ℕ, inl, inr, refl, sym, ap, subst, ◌∙◌, ◌⊎◌, ⊎_elim, IfSome}
+use Rattle.std.proofs.Common.{◌≡◌, Option, Some, None, Err, List, ℕ, inl, inr, refl, sym, ap, subst, ◌∙◌, ◌⊎◌, IfSome}
 use Rattle.std.specs.Prelude.{option_and_then}
 use Rattle.xl_base.specs.Faults.{Rose}
 use Rattle.xl_base.specs.declared.status.Status.{Status}
@@ -7,13 +7,14 @@ use Rattle.xl_base.specs.declared.status.Status.TheVariants as status
 use Rattle.xl_top.specs.Statuses.{IsAnswered}
 use Rattle.xl_replay.proofs.Headline.{whole_report, refused_report}
 use Rattle.xl_gen.proofs.Summing.{summarized}
+use Rattle.xl_validator.specs.Following.{HasFailed}
 use Rattle.xl_validator.specs.Validators.{IsKnown}
 use Rattle.xl_words.specs.declared.command.Telling.{Telling}
 use Rattle.xl_words.specs.Commands.{command_of, words_of}
 use Rattle.xl_top.specs.Commands.{telling_in, told_of}
 use Rattle.xl_top.specs.Texts.{WritesText, HasCause}
 use Rattle.xl_texts.specs.Streams.{streams}
-use Rattle.xl_top.proofs.After.{if_any, cause_of, cause_among, nothing_done}
+use Rattle.xl_top.proofs.After.{if_any, cause_of, cause_among, cause_or, nothing_done}
 use Rattle.xl_top.proofs.Asking.{by_asked, unasked, by_none}
 use Rattle.xl_top.proofs.command.top.Goals as goal
 
@@ -71,7 +72,14 @@ returns-in-Err-Memory-clause-summaries g c =
 
 pub returns-in-Ok-Tell-clause-others : goal.returns-in-Ok-Tell-clause-others
 returns-in-Ok-Tell-clause-others g c =
-    λ _. (c.unopened.ensures.keeper, refl, c.unopened.ensures.journal, refl, c.unopened.ensures.bulletin)
+    λ _. (
+      c.unopened.ensures.keeper,
+      refl,
+      c.unopened.ensures.journal,
+      refl,
+      c.unopened.ensures.bulletin,
+      c.unopened.ensures.recorder,
+    )
 
 pub returns-in-Ok-Tell-clause-store : goal.returns-in-Ok-Tell-clause-store
 returns-in-Ok-Tell-clause-store g c =
@@ -105,6 +113,7 @@ returns-in-Err-Refused-clause-others g c =
       c.unopened-in-Err-Refused.ensures.journal,
       refl,
       c.unopened-in-Err-Refused.ensures.bulletin,
+      c.unopened-in-Err-Refused.ensures.recorder,
     )
 
 pub returns-in-Err-Memory-clause-store : goal.returns-in-Err-Memory-clause-store
@@ -123,6 +132,7 @@ returns-in-Err-Memory-clause-others g c =
       c.unopened-in-Err-Memory.ensures.journal,
       refl,
       c.unopened-in-Err-Memory.ensures.bulletin,
+      c.unopened-in-Err-Memory.ensures.recorder,
     )
 
 pub returns-in-Ok-Tell-clause-words : goal.returns-in-Ok-Tell-clause-words
@@ -135,7 +145,14 @@ returns-in-Ok-Tell-clause-text g c =
 
 pub returns-in-Ok-Tell-clause-cause : goal.returns-in-Ok-Tell-clause-cause
 returns-in-Ok-Tell-clause-cause g c =
-    subst (λ (x : Status). HasCause x (Rose (g.I.Source.faults c.args.input.now) (g.I.Source.faults c.write_text.new.input)) (Rose (g.O.Sink.faults c.args.output.now) (g.O.Sink.faults c.write_text.new.output)) (Rose (g.K.Keeper.faults c.args.keeper) (g.K.Keeper.faults c.unopened.result.keeper)) (Rose (g.H.Hub.faults c.args.hub.now) (g.H.Hub.faults c.args.hub.now))) (sym c.unopened.ensures.status) (cause_among c.write_text.result (Rose (g.I.Source.faults c.args.input.now) (g.I.Source.faults c.write_text.new.input)) (Rose (g.O.Sink.faults c.args.output.now) (g.O.Sink.faults c.write_text.new.output)) (Rose (g.K.Keeper.faults c.args.keeper) (g.K.Keeper.faults c.unopened.result.keeper)) (Rose (g.H.Hub.faults c.args.hub.now) (g.H.Hub.faults c.args.hub.now)) c.write_text.ensures.cause)
+    let read = Rose (g.I.Source.faults c.args.input.now) (g.I.Source.faults c.write_text.new.input) in
+    let wrote = Rose (g.O.Sink.faults c.args.output.now) (g.O.Sink.faults c.write_text.new.output) in
+    let kept = Rose (g.K.Keeper.faults c.args.keeper) (g.K.Keeper.faults c.unopened.result.keeper) in
+    let linked = Rose (g.H.Hub.faults c.args.hub.now) (g.H.Hub.faults c.args.hub.now) in
+    subst (λ (x : Status). HasCause x read (wrote ⊎ HasFailed c.unopened.result.recorder) kept linked)
+    (sym c.unopened.ensures.status)
+    (cause_or c.write_text.result read wrote (HasFailed c.unopened.result.recorder) kept linked
+    (cause_among c.write_text.result read wrote kept linked c.write_text.ensures.cause))
 
 pub returns-in-Ok-Node-clause-words : goal.returns-in-Ok-Node-clause-words
 returns-in-Ok-Node-clause-words g c =
@@ -159,7 +176,7 @@ returns-in-Err-Refused-clause-text g c =
 
 pub returns-in-Err-Refused-clause-cause : goal.returns-in-Err-Refused-clause-cause
 returns-in-Err-Refused-clause-cause g c =
-    subst (λ (x : Status). HasCause x (Rose (g.I.Source.faults c.args.input.now) (g.I.Source.faults c.args.input.now)) (Rose (g.O.Sink.faults c.args.output.now) (g.O.Sink.faults c.args.output.now)) (Rose (g.K.Keeper.faults c.args.keeper) (g.K.Keeper.faults c.unopened-in-Err-Refused.result.keeper)) (Rose (g.H.Hub.faults c.args.hub.now) (g.H.Hub.faults c.args.hub.now))) (sym c.unopened-in-Err-Refused.ensures.status) tt
+    subst (λ (x : Status). HasCause x _ _ _ _) (sym c.unopened-in-Err-Refused.ensures.status) tt
 
 pub returns-in-Err-Memory-clause-words : goal.returns-in-Err-Memory-clause-words
 returns-in-Err-Memory-clause-words g c =
@@ -171,7 +188,7 @@ returns-in-Err-Memory-clause-text g c =
 
 pub returns-in-Err-Memory-clause-cause : goal.returns-in-Err-Memory-clause-cause
 returns-in-Err-Memory-clause-cause g c =
-    subst (λ (x : Status). HasCause x (Rose (g.I.Source.faults c.args.input.now) (g.I.Source.faults c.args.input.now)) (Rose (g.O.Sink.faults c.args.output.now) (g.O.Sink.faults c.args.output.now)) (Rose (g.K.Keeper.faults c.args.keeper) (g.K.Keeper.faults c.unopened-in-Err-Memory.result.keeper)) (Rose (g.H.Hub.faults c.args.hub.now) (g.H.Hub.faults c.args.hub.now))) (sym c.unopened-in-Err-Memory.ensures.status) tt
+    subst (λ (x : Status). HasCause x _ _ _ _) (sym c.unopened-in-Err-Memory.ensures.status) tt
 
 pub returns-in-Ok-Tell-clause-unread : goal.returns-in-Ok-Tell-clause-unread
 returns-in-Ok-Tell-clause-unread g c =
@@ -203,7 +220,7 @@ returns-in-Ok-Tell-clause-node_ran g c =
 
 pub returns-in-Ok-Node-clause-node : goal.returns-in-Ok-Node-clause-node
 returns-in-Ok-Node-clause-node g c =
-    λ _. ⊎_elim (λ judged. inl judged) (λ refused. inr (inl refused)) c.validator.ensures.judged
+    λ _. inl c.validator.ensures.judged
 
 pub returns-in-Ok-Tell-clause-told : goal.returns-in-Ok-Tell-clause-told
 returns-in-Ok-Tell-clause-told g c =
@@ -228,7 +245,7 @@ returns-in-Ok-Node-clause-ends g c =
       full = c.validator.ensures.full;
       submits = c.validator.ensures.submits;
       beats = c.validator.ensures.beats;
-      complete = λ quiet turns. inl (c.validator.ensures.complete quiet.0 quiet.1 quiet.2 quiet.3 quiet.4 turns);
+      complete = λ quiet turns. inl (c.validator.ensures.complete quiet.0 quiet.1 quiet.2 quiet.3 quiet.4 quiet.5 turns);
     }
 
 pub returns-in-Ok-Node-clause-node_ran : goal.returns-in-Ok-Node-clause-node_ran
@@ -249,14 +266,14 @@ returns-in-Err-Refused-clause-node_ran g c =
 
 pub returns-in-Err-Memory-clause-node : goal.returns-in-Err-Memory-clause-node
 returns-in-Err-Memory-clause-node g c =
-    λ _. inr (inr (record {
+    λ _. inr (record {
       memory = c.unopened-in-Err-Memory.ensures.status;
       unopened = c.unopened-in-Err-Memory.ensures.journal;
       unread = refl;
       unwritten = refl;
       kept = c.unopened-in-Err-Memory.ensures.keeper;
       unlinked = refl;
-    }))
+    })
 
 pub returns-in-Err-Memory-clause-ends : goal.returns-in-Err-Memory-clause-ends
 returns-in-Err-Memory-clause-ends g c =
@@ -271,3 +288,19 @@ returns-in-Err-Memory-clause-ends g c =
 pub returns-in-Err-Memory-clause-node_ran : goal.returns-in-Err-Memory-clause-node_ran
 returns-in-Err-Memory-clause-node_ran g c =
     by_none c.unopened-in-Err-Memory.result.journal _ c.unopened-in-Err-Memory.ensures.journal
+
+pub returns-in-Ok-Tell-clause-recorded : goal.returns-in-Ok-Tell-clause-recorded
+returns-in-Ok-Tell-clause-recorded g c =
+    λ is. let no = sym (c.in-Ok-Tell.ensures.found ∙ ap Some c.in-Ok-Tell.field-0-is) ∙ is in absurd cc
+
+pub returns-in-Ok-Node-clause-recorded : goal.returns-in-Ok-Node-clause-recorded
+returns-in-Ok-Node-clause-recorded g c =
+    λ _. inl c.validator.ensures.recorded
+
+pub returns-in-Err-Refused-clause-recorded : goal.returns-in-Err-Refused-clause-recorded
+returns-in-Err-Refused-clause-recorded g c =
+    λ is. let no = sym (unasked (command_of (words_of c.args.words.now)) (Err c.in-Err-Refused.field-0) (ap Err c.in-Err-Refused.field-0-is) c.in-Err-Refused.ensures.given) ∙ is in absurd cc
+
+pub returns-in-Err-Memory-clause-recorded : goal.returns-in-Err-Memory-clause-recorded
+returns-in-Err-Memory-clause-recorded g c =
+    λ _. inr (c.unopened-in-Err-Memory.ensures.status, c.unopened-in-Err-Memory.ensures.recorder, refl)

@@ -1,6 +1,7 @@
 -- the core opens at the number that the keeper gave, and its run's history is legal, so it can be written as it was
-use Rattle.std.proofs.Common.{◌≡◌, true, None, refl, ap, sym, subst, inl, ◌∙◌, length}
+use Rattle.std.proofs.Common.{◌≡◌, Bool, true, false, None, refl, ap, sym, subst, inl, inr, ◌∙◌, length}
 use Rattle.std.specs.Prelude.{is_some}
+use Rattle.std.proofs.lemmas.Result.{on_err_weaker}
 use Rattle.xl_heartbeat.specs.Outputs.{Output, output}
 use Rattle.xl_audit.specs.Rereading.{SaysYes}
 use Rattle.xl_base.specs.declared.status.Status.{Status}
@@ -8,17 +9,19 @@ use Rattle.xl_base.specs.declared.status.Status.TheVariants as status
 use Rattle.xl_workers.specs.Linking.{hub_seen}
 use Rattle.xl_workers.specs.Runs.{status_of_end}
 use Rattle.xl_validator.specs.Preparing.{task_in}
-use Rattle.xl_validator.specs.Recordings.{IsWritten}
-use Rattle.xl_validator.specs.Tellings.{TellsSo}
+use Rattle.xl_validator.specs.Recordings.{IsWritten, is_written}
+use Rattle.xl_validator.specs.Following.{end_by, retention_by, status_with}
 use Rattle.xl_validator.specs.Validators.{between}
 use Rattle.xl_validator.specs.declared.recording.Recording.{Recording}
-use Rattle.xl_validator.proofs.Behind.{ends, kept_there, legal_there, text_there, legal_of}
+use Rattle.xl_validator.proofs.Behind.{ends, legal_there, text_there, legal_of}
+use Rattle.xl_validator.proofs.Filed.{by_file, follows_first, follows_unread, kept_there, no_recorder}
 use Rattle.xl_validator.proofs.Leaving.{leaves_by}
+use Rattle.xl_validator.proofs.Statuses.{keeps_memory}
 use Rattle.xl_validator.proofs.Told.{of_either, of_none}
 use Rattle.xl_validator.proofs.command.start.Goals as goal
 
-pub recorded-ended-requires : goal.recorded-ended-requires
-recorded-ended-requires g c =
+pub recorded-run-requires : goal.recorded-run-requires
+recorded-run-requires g c =
     let old = c.args.output.now in
     let new = c.node-ran.new.sink in
     let core = c.in-Ok-prepare.field-0.core in
@@ -45,9 +48,19 @@ recorded-ended-requires g c =
           (g.C.Clock.may_give c.args.host.now.clock.now) (g.H.Hub.gives c.args.hub.now) outside
           c.load.new.self left.result.0.keeper left.result.0.status left.result.0.journal leaves.goes);
       opened = leaves.opened;
-      kept = λ asked. kept_there c.node-ran.result (λ r. r.closed.entries) (λ r. r.closed.journal)
-          left.result.1 left.result.0.journal c.in-Ok-prepare.field-0.plan.keeps c.args.judged.settings.journal
-          left.ensures.entries left.ensures.journal ran.kept c.in-Ok-prepare.ensures.keeps (sym made.ensures.asked ∙ asked);
+      kept = λ asked.
+          let s = c.args.judged.settings in
+          let behind : s.journal ≡ true = sym made.ensures.asked ∙ asked in
+          kept_there c.node-ran.result (λ r. r.closed.left) (λ r. r.closed.journal)
+          left.result.1 c.record_left-entries.result left.result.0.journal c.in-Ok-prepare.field-0.plan.retention
+          left.ensures.left left.ensures.journal ran.kept
+          (c.in-Ok-prepare.ensures.keeps ∙ ap (λ (b : Bool). retention_by b (is_some s.journal_file)) behind)
+          (c.record_left-entries.ensures.entries
+          (no_recorder g.J.Sink.held g.J.Sink.faults s c.args.judged.now c.in-Ok.kept
+          c.node-ran.result (λ r. r.closed.journal) c.in-Ok-prepare.field-0.plan.retention c.args.reached.file
+          c.recorder_of-recorder.result c.node-ran.new.outlets.recorder c.requires.file c.requires.runnable.apart behind
+          c.recorder_of-recorder.ensures ran.recorded
+          (on_err_weaker c.node-ran.result (λ same. ap (λ o. o.recorder) same) ran.untold)));
     }
 
 pub returns-in-Ok-prepare : goal.returns-in-Ok-prepare
@@ -62,7 +75,8 @@ returns-in-Ok-prepare g c =
     let made = c.recording_of-recording in
     let left = c.left_by-left in
     let ran = c.node-ran.ensures in
-    let done = c.recorded-ended in
+    let done = c.recorded-run in
+    let s = c.args.judged.settings in
     let leaves = leaves_by g.K.Keeper.held g.K.Keeper.saves g.K.Keeper.faults g.K.Keeper.save_gives core task
     (g.C.Clock.may_give c.args.host.now.clock.now) (g.H.Hub.gives c.args.hub.now)
     (between old_hub new_hub (g.O.Sink.held old) (g.O.Sink.faults old) (g.O.Sink.held new) (g.O.Sink.faults new)) old new
@@ -107,17 +121,44 @@ returns-in-Ok-prepare g c =
       write = all.write;
       keeper = λ fault. absurd (all.keeper fault);
       net = all.net;
-      told = of_either g.D.Board.show_gives c.args.judged.settings c.args.judged.now done.result.journal done.result.status
+      told = λ end last with_it ends.
+          of_either g.D.Board.show_gives s c.args.judged.now done.result.journal end
           c.in-Ok.kept c.node-ran.result (λ r. r.closed.journal) (λ r. r.closed.core) (λ r. status_of_end r.end) core
-          c.args.bulletin.now c.node-ran.new.bulletin c.tell_end-in-Ok-prepare.new.bulletin c.status_left-last.result
-          left.result.0.journal (is_some made.result) left.result.0.status
-          c.in-Ok-prepare.ensures.core ran.life ran.told ran.untold c.status_left-last.ensures left.ensures.journal
-          left.ensures.status done.ensures.left done.ensures.none c.tell_end-in-Ok-prepare.ensures;
+          c.args.reached.bulletin c.node-ran.new.outlets.bulletin last c.status_left-last.result
+          left.result.0.journal (is_some made.result) left.result.0.status done.result.status
+          (end_by c.record_left-entries.new.recorder)
+          c.in-Ok-prepare.ensures.core ran.life ran.told (on_err_weaker c.node-ran.result (λ same. ap (λ o. o.bulletin) same) ran.untold)
+          c.status_left-last.ensures left.ensures.journal
+          left.ensures.status done.ensures.left done.ensures.none with_it ends;
+      follows = by_file g.J.Sink.held g.J.Sink.faults s c.args.judged.now c.in-Ok.kept
+          (λ r. r.closed.left) (λ r. r.closed.journal) c.in-Ok-prepare.field-0.plan.retention
+          c.recorder_of-recorder.result c.node-ran.new.outlets.recorder c.record_left-entries.new.recorder left.result.1
+          left.result.0.journal c.node-ran.result s.journal_file s.journal c.args.reached.file done.result.journal
+          c.requires.file c.in-Ok-prepare.ensures.keeps c.requires.runnable.apart c.recorder_of-recorder.ensures
+          ran.recorded (on_err_weaker c.node-ran.result (λ same. ap (λ o. o.recorder) same) ran.untold)
+          left.ensures.left ran.kept left.ensures.journal c.record_left-entries.ensures.recorded
+          (λ before. (done.ensures.left (ap (λ (b : Bool). is_written b left.result.0.status) (made.ensures.asked ∙ before))).1);
     }
 
 pub returns-in_default-clause-told : goal.returns-in_default-clause-told
-returns-in_default-clause-told g c =
-    subst (λ (e : Status). TellsSo g.D.Board.show_gives c.args.judged.settings c.args.judged.now c.unopened.result.journal e
-    c.args.bulletin.now c.tell_end.new.bulletin) (sym c.unopened.ensures.status)
-    (of_none g.D.Board.show_gives c.args.judged.settings c.args.judged.now c.unopened.result.journal status.KeepFault
-    None c.args.bulletin.now c.tell_end.new.bulletin refl c.unopened.ensures.journal (inl refl) c.tell_end.ensures)
+returns-in_default-clause-told g c end last with_it ends =
+    of_none g.D.Board.show_gives c.args.judged.settings c.args.judged.now c.unopened.result.journal end
+    None c.args.reached.bulletin last refl c.unopened.ensures.journal (inl (with_it ∙ c.unopened.ensures.status)) ends
+
+pub returns-in_default-clause-follows : goal.returns-in_default-clause-follows
+returns-in_default-clause-follows g c =
+    follows_unread g.J.Sink.held g.J.Sink.faults c.args.judged.settings c.args.judged.now 0 c.args.reached.file
+    c.unopened.result.journal c.unopened.ensures.journal
+
+pub returns-in-Err-clause-told : goal.returns-in-Err-clause-told
+returns-in-Err-clause-told g c end last with_it ends =
+    let why = end_by c.recorder_of-recorder.result in
+    of_none g.D.Board.show_gives c.args.judged.settings c.args.judged.now c.unopened-in-Err.result.journal end
+    None c.args.reached.bulletin last refl c.unopened-in-Err.ensures.journal
+    (inr (with_it ∙ ap (status_with why) c.unopened-in-Err.ensures.status ∙ keeps_memory why)) ends
+
+pub returns-in-Err-clause-follows : goal.returns-in-Err-clause-follows
+returns-in-Err-clause-follows g c =
+    follows_first g.J.Sink.held g.J.Sink.faults c.args.judged.settings c.args.judged.now c.in-Ok.kept
+    c.args.reached.file c.recorder_of-recorder.result c.unopened-in-Err.result.journal c.recorder_of-recorder.ensures
+    c.unopened-in-Err.ensures.journal

@@ -3,7 +3,7 @@ use Rattle.xl_core.specs.Rest.{IsKeyed}
 use Rattle.xl_lists.specs.Lists.{TrustedList}
 use Rattle.xl_settings.specs.Peers.{are_peers}
 use Rattle.xl_validator.proofs.Opening.{keyed}
-use Rattle.xl_validator.proofs.recording.recording_of.Goals as goal
+use Rattle.xl_validator.proofs.recording.head_of.Goals as goal
 
 pub invariant_of-result-clause-keyed : goal.invariant_of-result-clause-keyed
 invariant_of-result-clause-keyed c =
