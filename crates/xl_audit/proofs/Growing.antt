@@ -1,18 +1,16 @@
 -- What is written of a journal's text, as it grows.
 use Rattle.std.proofs.Common.{◌≡◌, ◌++◌, ℕ, List, [], ◌∷◌, Option, Some, None, Result, Ok, Err, refl, sym, ap, ◌∙◌, subst, append_assoc, arith, length-append}
-use Rattle.std.specs.Prelude.{OnOk, IfNone}
+use Rattle.std.specs.Prelude.{IfNone, IfSome, OnOk}
 use Rattle.std.specs.Io.KnownBytes.{append_known}
 use Rattle.xl_io.specs.Sinks.{GrewByFront, GrewByLess}
 use Rattle.xl_io.proofs.Growing.{Written, append_known-twice}
 use Rattle.xl_lines.specs.Causes.{HasCause}
 use Rattle.xl_lines.specs.declared.fault.Fault.{Fault}
 use Rattle.xl_turns.specs.Histories.{IsLegal, Runs}
-use Rattle.xl_core.specs.Core.{Core, core_asks}
+use Rattle.xl_core.specs.Core.{Core}
 use Rattle.xl_store.specs.declared.entry.Entry.{Entry}
-use Rattle.xl_store.specs.Entries.{IsAllowed, IsOutcome, Leads, reply_of}
-use Rattle.xl_audit.specs.declared.tagging.Tagging.{Tagging}
-use Rattle.xl_audit.specs.Journals.{entries_text_as, entry_line}
-use Rattle.xl_audit.specs.Laws.{answer_text, written_with}
+use Rattle.xl_store.specs.Entries.{Leads, reply_of}
+use Rattle.xl_audit.specs.Lines.{Lines, MayStand, behind, line_at, text_from}
 
 -- THE NEXT PIECE
 
@@ -44,46 +42,49 @@ module _ (old mid new : Option (List ℕ)) (all piece rest : List ℕ) (so_far :
 
 -- THE NEXT ENTRY
 
-abbrev pub line_of : Tagging → Core → Entry → List ℕ
-line_of tagging core e = entry_line (written_with e (answer_text tagging core e))
+module _ (at : Lines) (left : List Entry) (e : Entry) (es : List Entry) (next : left ≡ e ∷ es) where
+  next_legal : IsLegal Leads at.core left → IsLegal Leads at.core (e ∷ es)
+  next_legal legal = subst (IsLegal Leads at.core) next legal
 
-module _ (tagging : Tagging) (core : Core) (left : List Entry) (e : Entry) (es : List Entry) (next : left ≡ e ∷ es) where
-  next_legal : IsLegal Leads core left → IsLegal Leads core (e ∷ es)
-  next_legal legal = subst (IsLegal Leads core) next legal
-
-  pub next_allowed : IsLegal Leads core left → IsAllowed core e.event
-  next_allowed legal = (next_legal legal).1.1.allowed
-
-  pub next_outcome : IsLegal Leads core left → IsOutcome (core_asks core e.event) e.outcome
-  next_outcome legal = (next_legal legal).1.1.outcome
-
-  pub later_legal : (after : Core) → after ≡ (reply_of core e).core → IsLegal Leads core left → IsLegal Leads after es
-  later_legal after is legal =
-      let it = next_legal legal in
-      (it.0, subst (λ (c : Core). Runs Leads c es it.0) (it.1.1.core ∙ sym is) it.1.2)
-
-  pub next_text : (after : Core) → after ≡ (reply_of core e).core → entries_text_as tagging core left ≡ line_of tagging core e ++ entries_text_as tagging after es
-  next_text after is = ap (entries_text_as tagging core) next ∙ ap (λ (c : Core). line_of tagging core e ++ entries_text_as tagging c es) (sym is)
-
-  -- the same is written, with the next line in front of what is left
-  pub next_written : (old mid : Option (List ℕ)) (all : List ℕ) (after : Core) → after ≡ (reply_of core e).core
-      → Written old mid all (entries_text_as tagging core left) → Written old mid all (line_of tagging core e ++ entries_text_as tagging after es)
-  next_written old mid all after is w = record {
-    front = w.front;
-    parts = w.parts ∙ ap (λ (xs : List ℕ). w.front ++ xs) (next_text after is);
-    held = w.held;
+  pub next_stands : IsLegal Leads at.core left → MayStand at.core e
+  next_stands legal = record {
+    allowed = (next_legal legal).1.1.allowed;
+    outcome = (next_legal legal).1.1.outcome;
   }
+
+  module _ (after : Lines) (is : after ≡ behind at e) where
+    pub later_legal : IsLegal Leads at.core left → IsLegal Leads after.core es
+    later_legal legal =
+        let it = next_legal legal in
+        let core : (reply_of at.core e).core ≡ after.core = ap (λ (l : Lines). l.core) (sym is) in
+        (it.0, subst (λ (c : Core). Runs Leads c es it.0) (it.1.1.core ∙ core) it.1.2)
+
+    pub next_text : text_from at left ≡ line_at at e ++ text_from after es
+    next_text = ap (text_from at) next ∙ ap (λ (l : Lines). line_at at e ++ text_from l es) (sym is)
+
+    -- the same is written, with the next line in front of what is left
+    pub next_written : (old mid : Option (List ℕ)) (all : List ℕ) → Written old mid all (text_from at left)
+        → Written old mid all (line_at at e ++ text_from after es)
+    next_written old mid all w = record {
+      front = w.front;
+      parts = w.parts ∙ ap (λ (xs : List ℕ). w.front ++ xs) next_text;
+      held = w.held;
+    }
+
+-- what is said of what is there
+pub some_so : {A : Type 0} (o : Option A) (x : A) (P : A → Type 0) → o ≡ Some x → IfSome o P → P x
+some_so {A} o x P is h = subst (λ (it : Option A). IfSome it P) is h
 
 -- nothing is left
 pub none_left : {A : Type 0} (r : Option A) (P Q : Type 0) → r ≡ None → IfNone r (P × Q) → P
 none_left None P Q is both = both.0
 none_left (Some x) P Q is both = absurd (cc)
 
-pub last_written : (tagging : Tagging) (old mid : Option (List ℕ)) (all : List ℕ) (core : Core) (left : List Entry) → left ≡ []
-    → Written old mid all (entries_text_as tagging core left) → Written old mid all []
-last_written tagging old mid all core left last w = record {
+pub last_written : (old mid : Option (List ℕ)) (all : List ℕ) (at : Lines) (left : List Entry) → left ≡ []
+    → Written old mid all (text_from at left) → Written old mid all []
+last_written old mid all at left last w = record {
   front = w.front;
-  parts = w.parts ∙ ap (λ (es : List Entry). w.front ++ entries_text_as tagging core es) last;
+  parts = w.parts ∙ ap (λ (es : List Entry). w.front ++ text_from at es) last;
   held = w.held;
 }
 

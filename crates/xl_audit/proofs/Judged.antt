@@ -38,7 +38,7 @@ use Rattle.xl_audit.proofs.Fitting.{entry_fits, held}
 
 -- WHETHER AN ENTRY IS RIGHT
 
-outcome_is : (asks : Option ℕ) (outcome : Option Saved) → IsCounted outcome → tells_of (is_some asks) outcome ≡ true
+pub outcome_is : (asks : Option ℕ) (outcome : Option Saved) → IsCounted outcome → tells_of (is_some asks) outcome ≡ true
     → IsOutcome asks outcome
 outcome_is None None counted t = refl
 outcome_is None (Some how) counted t = absurd (cc)
@@ -46,7 +46,7 @@ outcome_is (Some seq) None counted t = absurd (cc)
 outcome_is (Some seq) (Some saved.Ok) counted t = tt
 outcome_is (Some seq) (Some (saved.Failed count)) counted t = counted
 
-outcome_told : (asks : Option ℕ) (outcome : Option Saved) → IsOutcome asks outcome → tells_of (is_some asks) outcome ≡ true
+pub outcome_told : (asks : Option ℕ) (outcome : Option Saved) → IsOutcome asks outcome → tells_of (is_some asks) outcome ≡ true
 outcome_told None None o = refl
 outcome_told None (Some how) o = absurd (cc)
 outcome_told (Some seq) None o = absurd o

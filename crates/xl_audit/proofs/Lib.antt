@@ -22,3 +22,4 @@ pub mod Counting
 pub mod Rereading
 pub mod Leading
 pub mod Staying
+pub mod Joining

@@ -15,6 +15,7 @@ pub mod Opening
 pub mod Peers
 pub mod Auditing
 pub mod Journals
+pub mod Lines
 pub mod Leading
 pub mod Cuts
 pub mod Audits

@@ -1,4 +1,4 @@
-ghost use Rattle.std.specs.Prelude.{◌≡◌, ◌↔◌, ◌≤◌, IfOk, IsTrue, OnOk, not};
+ghost use Rattle.std.specs.Prelude.{◌≡◌, ◌↔◌, ◌≤◌, IfOk, IfSome, IsSome, IsTrue, OnOk, is_some, not};
 ghost use Rattle.xl_base.specs.Moments.{greatest_millis};
 ghost use Rattle.xl_ledger.specs.Limits.{greatest_limit, least_limit};
 ghost use Rattle.xl_core.specs.Core.{with_queues};
@@ -6,7 +6,7 @@ ghost use Rattle.xl_core.specs.Node.{opened_node};
 ghost use Rattle.xl_core.specs.Rest.{IsKeyed};
 ghost use Rattle.std.specs.String.{string_bytes};
 ghost use Rattle.xl_core.specs.Core.{core_asks};
-ghost use Rattle.xl_store.specs.Entries.{IsAllowed, IsOutcome, reply_of};
+ghost use Rattle.xl_store.specs.Entries.{IsAllowed, reply_of};
 ghost use Rattle.xl_audit.specs.Cuts.{likeness_at};
 ghost use Rattle.xl_audit.specs.Laws.{answer_text, written_with};
 ghost use Rattle.xl_audit.specs.Leading.{TellsDeed};
@@ -78,12 +78,20 @@ impl Auditor {
         self.core.node().keys()
     }
 
-    /// The text of the reply to an entry of a legal history, and the core goes on.
-    pub(crate) fn reply(&mut self, tagging: Tagging, entry: &Entry) -> Result<String, OutOfMemory>
+    /// The text of the reply to an entry, if its save can have been answered so, and the core goes on. If not, nothing is
+    /// known of the core.
+    pub(crate) fn reply(
+        &mut self,
+        tagging: Tagging,
+        entry: &Entry,
+    ) -> Result<Option<String>, OutOfMemory>
         requires allowed { IsAllowed self.old entry.now.event }
-        requires outcome { IsOutcome (core_asks self.old entry.now.event) entry.now.outcome }
-        ensures text { IfOk result (λ text. string_bytes text ≡ answer_text tagging self.old entry.now) }
-        ensures core { OnOk result (self.new ≡ (reply_of self.old entry.now).core) }
+        requires counted { IsCounted entry.now.outcome }
+        ensures some { IfOk result (λ text. is_some text
+            ≡ tells_of (is_some (core_asks self.old entry.now.event)) entry.now.outcome) }
+        ensures text { IfOk result (λ text. IfSome text (λ told.
+            string_bytes told ≡ answer_text tagging self.old entry.now)) }
+        ensures core { IfOk result (λ text. IsSome text → self.new ≡ (reply_of self.old entry.now).core) }
     {
         let mut keeper = EntryKeeper::of(entry.outcome);
         let mut text = String::new(self.alloc);
@@ -97,7 +105,10 @@ impl Auditor {
             &mut text,
             &mut answer,
         )?;
-        Ok(text)
+        if !tells_of(keeper.was_asked(), &entry.outcome) {
+            return Ok(None);
+        }
+        Ok(Some(text))
     }
 
     /// Whether the entry is right after those so far, which were right. After one that isn't nothing is known of the

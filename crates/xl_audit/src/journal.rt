@@ -5,14 +5,11 @@ ghost use Rattle.std.specs.String.{string_bytes};
 ghost use Rattle.hex.specs.Hex.{IsBytes};
 ghost use Rattle.xl_lists.specs.Lists.{IsValid};
 ghost use Rattle.xl_tags.specs.Rings.{key_of};
-ghost use Rattle.xl_core.specs.Core.{core_asks};
-ghost use Rattle.xl_store.specs.Entries.{IsAllowed, IsOutcome, reply_of};
-ghost use Rattle.xl_audit.specs.Laws.{answer_text, written_with};
+ghost use Rattle.xl_audit.specs.Laws.{written_with};
 ghost use Rattle.xl_base.specs.Ids.{IsId};
 ghost use Rattle.xl_audit.specs.Stored.{AreStored, HasIds, IsMember, IsStored, IsStoredEvent, IsStoredOutcome};
 ghost use Rattle.xl_audit.specs.Journals.{entry_line, event_text, head_text_as, key_lines, key_text, keys_text_as, kind_text, list_text, members_text, opening_text, other_text, outcome_text, peer_at, peers_line, peers_of, peers_text, settings_line, validating_text};
 
-use crate::Auditor;
 use crate::opening::numbered;
 use crate::replies::push_bytes;
 use crate::reply_text::ReplyText;
@@ -323,27 +320,22 @@ pub fn push_head(
     Ok(())
 }
 
-/// The line of the next entry of a legal history, with its reply.
+/// The line of an entry with a reply.
 pub fn push_entry(
     alloc: Global,
     text: &mut String,
-    tagging: Tagging,
-    auditor: &mut Auditor,
     entry: &Entry,
+    reply: &str,
 ) -> Result<(), OutOfMemory>
-    requires allowed { IsAllowed auditor.old entry.now.event }
-    requires outcome { IsOutcome (core_asks auditor.old entry.now.event) entry.now.outcome }
     ensures text { OnOk result (string_bytes text.new
-        ≡ string_bytes text.old ++ entry_line (written_with entry.now (answer_text tagging auditor.old entry.now))) }
-    ensures core { OnOk result (auditor.new ≡ (reply_of auditor.old entry.now).core) }
+        ≡ string_bytes text.old ++ entry_line (written_with entry.now reply.now)) }
     ensures stored { OnOk result (IsStored entry.now) }
 {
     push_event(alloc, text, &entry.event)?;
     text.push(' ')?;
     push_outcome(text, &entry.outcome)?;
     text.push_str(" = ")?;
-    let reply = auditor.reply(tagging, entry)?;
-    text.push_str(reply.as_str())?;
+    text.push_str(reply)?;
     text.push('\n')?;
     Ok(())
 }

@@ -17,6 +17,7 @@
 //! ```
 #![tactic(auto)]
 
+mod allowing;
 mod auditor;
 mod coming;
 mod command;
@@ -24,6 +25,7 @@ mod compared;
 mod digits;
 mod entries;
 mod journal;
+mod journal_lines;
 mod judge;
 mod judging;
 mod key_ring;
@@ -48,6 +50,7 @@ mod written;
 pub use auditor::Auditor;
 pub use command::Audit;
 pub use entries::ReadEntry;
+pub use journal_lines::{JournalLines, journal_head};
 pub use judge::lead;
 pub use judging::{BadLine, Lead, Stage, Step, beyond, ended, push_bad};
 pub use key_ring::KeyRing;
@@ -57,5 +60,6 @@ pub use laws::{
 pub use limits::{MOST_BYTES, MOST_LINES};
 pub use opening::Opening;
 pub use stepping::AuditedCore;
+pub use tagging::Tagging;
 pub use writing::{write_journal, write_untagged_journal};
 pub use written::Written;

@@ -1,114 +1,71 @@
-ghost use Rattle.std.specs.Prelude.{◌≡◌, ◌≤◌, All, IfOk, IsErrOf, OnOk};
+ghost use Rattle.std.specs.Prelude.{◌≡◌, ◌≤◌, All, IsErrOf, OnOk};
 ghost use Rattle.std.specs.Io.KnownBytes.{append_known};
-ghost use Rattle.std.specs.String.{string_bytes};
 ghost use Rattle.xl_base.specs.Moments.{greatest_millis};
 ghost use Rattle.xl_ledger.specs.Limits.{greatest_limit, least_limit};
 ghost use Rattle.xl_io.specs.Sinks.{GrewByFront, GrewByLess};
 ghost use Rattle.xl_lines.specs.Causes.{HasCause};
 ghost use Rattle.xl_turns.specs.Histories.{IsLegal};
-ghost use Rattle.xl_core.specs.Core.{core_asks};
 ghost use Rattle.xl_core.specs.Rest.{IsKeyed};
-ghost use Rattle.xl_store.specs.Entries.{IsAllowed, IsOutcome, Leads, reply_of};
-ghost use Rattle.xl_audit.specs.Journals.{entries_text_as, entry_line, head_text_as, journal_text, journal_text_as, start_of, untagged_journal_text};
-ghost use Rattle.xl_audit.specs.Laws.{answer_text, written_with};
+ghost use Rattle.xl_store.specs.Entries.{Leads};
+ghost use Rattle.xl_audit.specs.Journals.{head_text_as, journal_text, journal_text_as, start_of, untagged_journal_text};
+ghost use Rattle.xl_audit.specs.Lines.{MayStand, behind, line_at, text_from};
 ghost use Rattle.xl_audit.specs.Rereading.{GetsYes};
 ghost use Rattle.xl_audit.specs.Stored.{AreStored, IsStored};
 
-use crate::Auditor;
-use crate::journal::{push_entry, push_head};
+use crate::journal_lines::{JournalLines, journal_head};
 use crate::tagging::Tagging;
 use std::alloc::Global;
-use xl_base::{Millis, OutOfMemory, Seq};
+use xl_base::{Millis, Seq};
 use xl_core::Settings;
 use xl_io::{Sink, write_all};
 use xl_lines::Fault;
 use xl_store::{Entries, Entry};
 
-/// The line of the next entry of a legal history, with its reply, and the core goes on.
-fn line_of(
-    alloc: Global,
-    tagging: Tagging,
-    auditor: &mut Auditor,
-    entry: &Entry,
-) -> Result<String, OutOfMemory>
-    requires allowed { IsAllowed auditor.old entry.now.event }
-    requires outcome { IsOutcome (core_asks auditor.old entry.now.event) entry.now.outcome }
-    ensures text { IfOk result (λ text. string_bytes text
-        ≡ entry_line (written_with entry.now (answer_text tagging auditor.old entry.now))) }
-    ensures core { OnOk result (auditor.new ≡ (reply_of auditor.old entry.now).core) }
-    ensures stored { OnOk result (IsStored entry.now) }
-{
-    let mut text = String::new(alloc);
-    push_entry(alloc, &mut text, tagging, auditor, entry)?;
-    Ok(text)
-}
-
-/// Writes that line.
+/// Writes the line of the next entry of a legal history.
 fn write_entry<O: Sink>(
-    alloc: Global,
-    tagging: Tagging,
-    auditor: &mut Auditor,
+    lines: &mut JournalLines,
     entry: &Entry,
     output: &mut O,
 ) -> Result<(), Fault>
-    requires allowed { IsAllowed auditor.old entry.now.event }
-    requires outcome { IsOutcome (core_asks auditor.old entry.now.event) entry.now.outcome }
-    ensures core { OnOk result (auditor.new ≡ (reply_of auditor.old entry.now).core) }
-    ensures whole { OnOk result (O.held output.new ≡ append_known (O.held output.old)
-        (entry_line (written_with entry.now (answer_text tagging auditor.old entry.now)))) }
-    ensures front { GrewByFront (O.held output.old) (O.held output.new)
-        (entry_line (written_with entry.now (answer_text tagging auditor.old entry.now))) }
-    ensures less { IsErrOf result Fault.Write → GrewByLess (O.held output.old) (O.held output.new)
-        (entry_line (written_with entry.now (answer_text tagging auditor.old entry.now))) }
+    requires may { MayStand lines.old.core entry.now }
+    ensures behind { OnOk result (lines.new ≡ behind lines.old entry.now) }
+    ensures whole { OnOk result
+        (O.held output.new ≡ append_known (O.held output.old) (line_at lines.old entry.now)) }
+    ensures front { GrewByFront (O.held output.old) (O.held output.new) (line_at lines.old entry.now) }
+    ensures less { IsErrOf result Fault.Write
+        → GrewByLess (O.held output.old) (O.held output.new) (line_at lines.old entry.now) }
     ensures cause { HasCause (O.faults output.old) (O.faults output.new) result }
     ensures stored { OnOk result (IsStored entry.now) }
 {
-    let text = line_of(alloc, tagging, auditor, entry)?;
+    let Some(text) = lines.next(entry)? else {
+        unreachable!()
+    };
     write_all(output, text.as_bytes())?;
     Ok(())
 }
 
 /// Writes the lines of a legal history's entries, the oldest first.
 fn write_entries<O: Sink>(
-    alloc: Global,
-    tagging: Tagging,
-    auditor: Auditor,
+    lines: JournalLines,
     journal: Entries,
     output: &mut O,
 ) -> Result<(), Fault>
-    requires legal { IsLegal Leads auditor journal }
-    ensures whole { OnOk result
-        (O.held output.new ≡ append_known (O.held output.old) (entries_text_as tagging auditor journal)) }
-    ensures front { GrewByFront (O.held output.old) (O.held output.new) (entries_text_as tagging auditor journal) }
+    requires legal { IsLegal Leads lines.core journal }
+    ensures whole { OnOk result (O.held output.new ≡ append_known (O.held output.old) (text_from lines journal)) }
+    ensures front { GrewByFront (O.held output.old) (O.held output.new) (text_from lines journal) }
     ensures less { IsErrOf result Fault.Write
-        → GrewByLess (O.held output.old) (O.held output.new) (entries_text_as tagging auditor journal) }
+        → GrewByLess (O.held output.old) (O.held output.new) (text_from lines journal) }
     ensures cause { HasCause (O.faults output.old) (O.faults output.new) result }
     ensures stored { OnOk result (All IsStored journal) }
 {
-    let (mut auditor, mut left) = (auditor, journal);
+    let (mut lines, mut left) = (lines, journal);
     while let Some(entry) = left.next() {
-        write_entry(alloc, tagging, &mut auditor, &entry, output)?;
+        write_entry(&mut lines, &entry, output)?;
     }
     Ok(())
 }
 
-/// What stands before the entries.
-fn head_of(
-    alloc: Global,
-    tagging: Tagging,
-    settings: &Settings,
-    now: Millis,
-    kept: Seq,
-) -> Result<String, OutOfMemory>
-    ensures text { IfOk result (λ text. string_bytes text ≡ head_text_as tagging settings.now now kept) }
-    ensures stored { OnOk result (tagging ≡ Tagging.Tagged → AreStored settings.now) }
-{
-    let mut text = String::new(alloc);
-    push_head(alloc, &mut text, tagging, settings, now, kept)?;
-    Ok(text)
-}
-
-/// Writes it.
+/// Writes what stands before the entries.
 fn write_head<O: Sink>(
     alloc: Global,
     tagging: Tagging,
@@ -125,7 +82,7 @@ fn write_head<O: Sink>(
     ensures cause { HasCause (O.faults output.old) (O.faults output.new) result }
     ensures stored { OnOk result (tagging ≡ Tagging.Tagged → AreStored settings.now) }
 {
-    let text = head_of(alloc, tagging, settings, now, kept)?;
+    let text = journal_head(alloc, tagging, settings, now, kept)?;
     write_all(output, text.as_bytes())?;
     Ok(())
 }
@@ -156,8 +113,8 @@ fn write_text<O: Sink>(
         → GetsYes settings now kept journal) }
 {
     write_head(alloc, tagging, &settings, now, kept, output)?;
-    let auditor = Auditor::open(alloc, settings, now, kept)?;
-    write_entries(alloc, tagging, auditor, journal, output)
+    let lines = JournalLines::open(alloc, tagging, settings, now, kept)?;
+    write_entries(lines, journal, output)
 }
 
 /// Writes a journal: its settings, its keys, and a line for each entry, whose reply a new core gives that is stepped by
