@@ -138,6 +138,15 @@ line_stops {T} {U} r s end a c stands t u texts same was m =
     (subst (λ (it : Result U RecordEnd). MatchResult it (λ _. HasWritten a 0 t c) (λ why. HasStopped a ⊤ 0 t why c)) was m))
 
 -- the head is written, and memory runs out then
+pub head_stops : {T U : Type 0} (r : Result T RecordEnd) (s : Result U RecordEnd) (end : RecordEnd) (P : T → Type 0)
+    (a c : Part) (t u : List ℕ) → t ≡ u → IsErrAnd r (λ y. y ≡ end) → s ≡ Err end
+    → MatchResult s (λ _. HasWritten a 0 t c) (λ why. HasStopped a ⊤ 0 t why c)
+    → MatchResult r P (λ why. HasStopped a ⊤ 0 u why c)
+head_stops {T} {U} r s end P a c t u texts same was m =
+    by_end r end P (λ why. HasStopped a ⊤ 0 u why c) same
+    (stopped_as a c ⊤ 0 0 t u end refl texts
+    (subst (λ (it : Result U RecordEnd). MatchResult it (λ _. HasWritten a 0 t c) (λ why. HasStopped a ⊤ 0 t why c)) was m))
+
 pub head_whole : (a b : Part) (t u : List ℕ) → t ≡ u → HasWritten a 0 t b → HasStopped a ⊤ 0 u Memory b
 head_whole a b t u same w = record {
   front = record { written = u; missing = []; parts = sym (append-nil u); held = w.held ∙ ap (append_known a.held) same };
