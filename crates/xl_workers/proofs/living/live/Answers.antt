@@ -270,8 +270,7 @@ returns-clause-lived g c =
     let by_peers = worked_from s pulse address (map member_of peers) mid (known now) (known all) o1 o2 beats
     (same_mine store pass first heart now peers door crew h a b)
     (same_seen store pass first heart now peers door crew h a b)
-    (subst
-    (λ (ps : List (Peer g.row.H-L.Denot)).
+    (subst (λ (ps : List (Peer g.row.H-L.Denot)).
     Worked s pulse address (map member_of ps) (known now) o1 beats (known all) o2) same
     (worked store may shows doors pulse now heart c.run-beats.new.pass c.join-one.result
     all o1 o2 beats crew.porter after.porter hired ended j gives address is_door told)) in
