@@ -100,7 +100,7 @@ module _ (r : Retention) (history : List Entry) where
       (each_silent parts all)
 
 -- what was submitted by the first pass takes no reports
-pub quiet_first : (start : Core) (may : ℕ → Bool) (old new : Knowledge Entry) (ids : List TxId) (history : List Entry)
+quiet_first : (start : Core) (may : ℕ → Bool) (old new : Knowledge Entry) (ids : List TxId) (history : List Entry)
     → old ≡ newcomer → Submitted start may old ids new → IsPrefix new.seen history
     → AllByRecursion (IsQuietAt history) new.mine
 quiet_first start may old new ids history first sub seen =
@@ -152,8 +152,8 @@ module _ {B K L D : Type 0} (store : Store B K) (may : ℕ → Bool) (shows : L 
         traceless_parts history xs ys pairs.1 fresh.1 seen.1,
       )
 
-  module _ (pulse : Pulse) (first heart beaten one pass : Pass Entry) (old_output new_output : Output)
-      (end : BeatEnd) (porter kept : Porter D) (old new : List (Worker L))
+  module _ {pulse : Pulse} {first heart beaten one pass : Pass Entry} {old_output new_output : Output}
+      {end : BeatEnd} {porter kept : Porter D} {old new : List (Worker L)}
       (j : Joined store may shows doors pulse first heart beaten one pass old_output new_output end porter kept old new)
     where
       -- of what all did together only the heartbeat's calls take reports
@@ -175,6 +175,19 @@ module _ {B K L D : Type 0} (store : Store B K) (may : ℕ → Bool) (shows : L 
           ∙ batches_beside r history (known first).mine (known beaten).mine
           ((known kept.pass).mine ∷ map (λ (w : Worker L). (known w.pass).mine) new)
           (sorted_rise 0 (known beaten).mine (length history) beat.rise) quiet (gate, parts)
+
+      -- what the first pass submitted takes no reports
+      pub still_quiet : (fresh mid : Knowledge Entry) (ids : List TxId) → fresh ≡ newcomer
+          → Submitted (start_of store) may fresh ids mid
+          → (known first).mine ≡ mid.mine → (known first).seen ≡ mid.seen
+          → (history : List Entry) → IsPrefix (known pass).seen history
+          → AllByRecursion (IsQuietAt history) (known first).mine
+      still_quiet fresh mid ids none sub mine seen history begins =
+          let begun = subst (λ (l : List Entry). IsPrefix l history) seen
+          (prefix_trans (known first).seen (known one).seen history j.first_seen
+          (prefix_trans (known one).seen (known pass).seen history j.one_seen begins)) in
+          subst (λ (l : List ℕ). AllByRecursion (IsQuietAt history) l) (sym mine)
+          (quiet_first (start_of store) may fresh mid ids history none sub begun)
 
       -- so all that is handed on was recorded by the heartbeat, and then by the last reports
       pub all_recorded : {R : Type 0} (records : R → Batch → R → Type 0) (r : Retention) (before mid after : Option R)

@@ -4,12 +4,9 @@ use Rattle.std.proofs.Common.{◌≡◌, ◌≤◌, ◌^◌, ℕ, Option, List, 
 use Rattle.std.proofs.lemmas.List.{length-map}
 use Rattle.std.specs.Prelude.{IsSome}
 use Rattle.std.specs.List.{AllByRecursion}
-use mathlib.Core.List.{IsPrefix}
 use Rattle.xl_base.specs.declared.ids.TxId.{TxId}
 use Rattle.xl_tags.specs.Rings.{key_of}
 use Rattle.xl_turns.specs.Passes.{known}
-use Rattle.xl_turns.proofs.Prefixes.{prefix_trans}
-use Rattle.xl_store.specs.declared.entry.Entry.{Entry}
 use Rattle.xl_store.specs.Stores.{start_of, turns_of, retention_of}
 use Rattle.xl_heartbeat.specs.Outputs.{output}
 use Rattle.xl_heartbeat.proofs.Telling.{untold, still_told}
@@ -32,21 +29,16 @@ use Rattle.xl_workers.proofs.Links.{same_members, all_front}
 use Rattle.xl_workers.proofs.Starts.{enough_left, are_all, same_peers, same_mine, same_seen, worked_from}
 use Rattle.xl_workers.proofs.Shared.{Joined, all_his, worked}
 use Rattle.xl_workers.proofs.Lives.{lived, lived_unstarted, lived_front, lives_ran, lives_none, lives_unlinked, still_whole}
-use Rattle.xl_workers.proofs.Recordings.{IsQuietAt, quiet_first, nothing_recorded, submits_recorded, all_recorded}
+use Rattle.xl_workers.proofs.Recordings.{nothing_recorded, submits_recorded, still_quiet, all_recorded}
 use Rattle.xl_workers.proofs.living.live.Goals as goal
+use Rattle.xl_workers.proofs.living.live.Goals.{After-drop-submits-2}
 
 pub split-first-requires-clause-share : goal.split-first-requires-clause-share
 split-first-requires-clause-share g c =
-    let start = start_of c.args.store.now in
-    let turns = turns_of c.args.store.now in
-    let may = g.C.Clock.may_give c.args.host.now.clock.now in
-    let gives = g.H.Hub.gives c.args.hub.now in
-    let s = setting start turns may gives in
-    let ids : List TxId = c.args.plan.submits.items in
-    let old = known c.args.pass in
+    let s = setting (start_of c.args.store.now) (turns_of c.args.store.now)
+    (g.C.Clock.may_give c.args.host.now.clock.now) (g.H.Hub.gives c.args.hub.now) in
     let mid = known c.submit_all.new.pass in
-    let sub = subst (λ (l : List TxId). Submitted start may old l mid) c.deref.ensures.value c.in-Ok.ensures.all in
-    let share : mid.share ≡ 2 ^ 126 = still_whole s ids old mid c.requires.new sub in
+    let share : mid.share ≡ 2 ^ 126 = still_whole s _ (known c.args.pass) mid c.requires.new c.in-Ok.ensures.all in
     omega (arith, share)
 
 pub hire_all-first-requires-clause-peers : goal.hire_all-first-requires-clause-peers
@@ -58,15 +50,12 @@ hire_all-first-requires-clause-peers g c =
 
 pub hire_all-first-requires-clause-share : goal.hire_all-first-requires-clause-share
 hire_all-first-requires-clause-share g c =
-    let start = start_of c.args.store.now in
-    let turns = turns_of c.args.store.now in
-    let may = g.C.Clock.may_give c.args.host.now.clock.now in
-    let gives = g.H.Hub.gives c.args.hub.now in
-    let s = setting start turns may gives in
+    let s = setting (start_of c.args.store.now) (turns_of c.args.store.now)
+    (g.C.Clock.may_give c.args.host.now.clock.now) (g.H.Hub.gives c.args.hub.now) in
     let ids : List TxId = c.args.plan.submits.items in
     let old = known c.args.pass in
     let mid = known c.submit_all.new.pass in
-    let sub = subst (λ (l : List TxId). Submitted start may old l mid) c.deref.ensures.value c.in-Ok.ensures.all in
+    let sub = subst (λ (l : List TxId). Submitted s.start s.may_give old l mid) c.deref.ensures.value c.in-Ok.ensures.all in
     let same = ap (length {A = ℕ}) c.in-Ok-open_links.ensures.linked.members in
     let peers : List (Peer g.row.H-L.Denot) = c.in-Ok-open_links.peers.items in
     let few : length peers ≤ 64 = omega (
@@ -81,11 +70,8 @@ hire_all-first-requires-clause-share g c =
 
 pub returns-then-not-can_run-clause-lived : goal.returns-then-not-can_run-clause-lived
 returns-then-not-can_run-clause-lived g c =
-    let start = start_of c.args.store.now in
-    let turns = turns_of c.args.store.now in
-    let may = g.C.Clock.may_give c.args.host.now.clock.now in
-    let gives = g.H.Hub.gives c.args.hub.now in
-    let s = setting start turns may gives in
+    let s = setting (start_of c.args.store.now) (turns_of c.args.store.now)
+    (g.C.Clock.may_give c.args.host.now.clock.now) (g.H.Hub.gives c.args.hub.now) in
     let hub = hub_seen (g.H.Hub.faults c.args.hub.now) (g.H.Hub.asked c.args.hub.now) in
     let o = output (g.O.Sink.held c.args.sink.now) (g.O.Sink.faults c.args.sink.now) in
     let d = doing_of c.args.plan.submits.items (map target_of c.args.plan.contacts.items) c.args.plan.door c.args.plan.pulse hub hub o o in
@@ -93,11 +79,8 @@ returns-then-not-can_run-clause-lived g c =
 
 pub returns-in-Err-clause-lived : goal.returns-in-Err-clause-lived
 returns-in-Err-clause-lived g c =
-    let start = start_of c.args.store.now in
-    let turns = turns_of c.args.store.now in
-    let may = g.C.Clock.may_give c.args.host.now.clock.now in
-    let gives = g.H.Hub.gives c.args.hub.now in
-    let s = setting start turns may gives in
+    let s = setting (start_of c.args.store.now) (turns_of c.args.store.now)
+    (g.C.Clock.may_give c.args.host.now.clock.now) (g.H.Hub.gives c.args.hub.now) in
     let ids : List TxId = c.args.plan.submits.items in
     let targets = map target_of c.args.plan.contacts.items in
     let old_hub = hub_seen (g.H.Hub.faults c.args.hub.now) (g.H.Hub.asked c.args.hub.now) in
@@ -105,25 +88,22 @@ returns-in-Err-clause-lived g c =
     let d = doing_of ids targets c.args.plan.door c.args.plan.pulse old_hub old_hub o o in
     let old = known c.args.pass in
     let mid = known c.submit_all.new.pass in
-    let front = subst (λ (l : List TxId). SubmittedFront start turns may old l c.in-Err.end mid) c.deref.ensures.value
+    let front = subst (λ (l : List TxId). SubmittedFront s.start s.turns s.may_give old l c.in-Err.end mid) c.deref.ensures.value
     c.in-Err.ensures.front in
     subst (λ (e : RunEnd). Lived s d e mid) (sym c.end_of.ensures)
     (lived_front s d old mid c.in-Err.end c.requires.new refl refl front)
 
 pub returns-in-Err-NetFault-clause-lived : goal.returns-in-Err-NetFault-clause-lived
 returns-in-Err-NetFault-clause-lived g c =
-    let start = start_of c.args.store.now in
-    let turns = turns_of c.args.store.now in
-    let may = g.C.Clock.may_give c.args.host.now.clock.now in
-    let gives = g.H.Hub.gives c.args.hub.now in
-    let s = setting start turns may gives in
+    let s = setting (start_of c.args.store.now) (turns_of c.args.store.now)
+    (g.C.Clock.may_give c.args.host.now.clock.now) (g.H.Hub.gives c.args.hub.now) in
     let ids : List TxId = c.args.plan.submits.items in
     let targets = map target_of c.args.plan.contacts.items in
     let old_hub = hub_seen (g.H.Hub.faults c.args.hub.now) (g.H.Hub.asked c.args.hub.now) in
     let new_hub = hub_seen (g.H.Hub.faults c.open_links.new.hub) (g.H.Hub.asked c.open_links.new.hub) in
     let old = known c.args.pass in
     let mid = known c.submit_all.new.pass in
-    let sub = subst (λ (l : List TxId). Submitted start may old l mid) c.deref.ensures.value c.in-Ok.ensures.all in
+    let sub = subst (λ (l : List TxId). Submitted s.start s.may_give old l mid) c.deref.ensures.value c.in-Ok.ensures.all in
     let share = still_whole s ids old mid c.requires.new sub in
     let o = output (g.O.Sink.held c.args.sink.now) (g.O.Sink.faults c.args.sink.now) in
     let d = doing_of ids targets c.args.plan.door c.args.plan.pulse old_hub new_hub o o in
@@ -134,18 +114,15 @@ returns-in-Err-NetFault-clause-lived g c =
 
 pub returns-in-Err-OutOfMemory-clause-lived : goal.returns-in-Err-OutOfMemory-clause-lived
 returns-in-Err-OutOfMemory-clause-lived g c =
-    let start = start_of c.args.store.now in
-    let turns = turns_of c.args.store.now in
-    let may = g.C.Clock.may_give c.args.host.now.clock.now in
-    let gives = g.H.Hub.gives c.args.hub.now in
-    let s = setting start turns may gives in
+    let s = setting (start_of c.args.store.now) (turns_of c.args.store.now)
+    (g.C.Clock.may_give c.args.host.now.clock.now) (g.H.Hub.gives c.args.hub.now) in
     let ids : List TxId = c.args.plan.submits.items in
     let targets = map target_of c.args.plan.contacts.items in
     let old_hub = hub_seen (g.H.Hub.faults c.args.hub.now) (g.H.Hub.asked c.args.hub.now) in
     let new_hub = hub_seen (g.H.Hub.faults c.open_links.new.hub) (g.H.Hub.asked c.open_links.new.hub) in
     let old = known c.args.pass in
     let mid = known c.submit_all.new.pass in
-    let sub = subst (λ (l : List TxId). Submitted start may old l mid) c.deref.ensures.value c.in-Ok.ensures.all in
+    let sub = subst (λ (l : List TxId). Submitted s.start s.may_give old l mid) c.deref.ensures.value c.in-Ok.ensures.all in
     let share = still_whole s ids old mid c.requires.new sub in
     let o = output (g.O.Sink.held c.args.sink.now) (g.O.Sink.faults c.args.sink.now) in
     let d = doing_of ids targets c.args.plan.door c.args.plan.pulse old_hub new_hub o o in
@@ -155,18 +132,15 @@ returns-in-Err-OutOfMemory-clause-lived g c =
 
 pub returns-in_default-clause-lived : goal.returns-in_default-clause-lived
 returns-in_default-clause-lived g c =
-    let start = start_of c.args.store.now in
-    let turns = turns_of c.args.store.now in
-    let may = g.C.Clock.may_give c.args.host.now.clock.now in
-    let gives = g.H.Hub.gives c.args.hub.now in
-    let s = setting start turns may gives in
+    let s = setting (start_of c.args.store.now) (turns_of c.args.store.now)
+    (g.C.Clock.may_give c.args.host.now.clock.now) (g.H.Hub.gives c.args.hub.now) in
     let ids : List TxId = c.args.plan.submits.items in
     let targets = map target_of c.args.plan.contacts.items in
     let old_hub = hub_seen (g.H.Hub.faults c.args.hub.now) (g.H.Hub.asked c.args.hub.now) in
     let new_hub = hub_seen (g.H.Hub.faults c.open_links.new.hub) (g.H.Hub.asked c.open_links.new.hub) in
     let old = known c.args.pass in
     let mid = known c.submit_all.new.pass in
-    let sub = subst (λ (l : List TxId). Submitted start may old l mid) c.deref.ensures.value c.in-Ok.ensures.all in
+    let sub = subst (λ (l : List TxId). Submitted s.start s.may_give old l mid) c.deref.ensures.value c.in-Ok.ensures.all in
     let share = still_whole s ids old mid c.requires.new sub in
     let o = output (g.O.Sink.held c.args.sink.now) (g.O.Sink.faults c.args.sink.now) in
     let d = doing_of ids targets c.args.plan.door c.args.plan.pulse old_hub new_hub o o in
@@ -179,11 +153,8 @@ returns-in_default-clause-lived g c =
 
 pub returns-in-Err-open_door-clause-lived : goal.returns-in-Err-open_door-clause-lived
 returns-in-Err-open_door-clause-lived g c =
-    let start = start_of c.args.store.now in
-    let turns = turns_of c.args.store.now in
-    let may = g.C.Clock.may_give c.args.host.now.clock.now in
-    let gives = g.H.Hub.gives c.args.hub.now in
-    let s = setting start turns may gives in
+    let s = setting (start_of c.args.store.now) (turns_of c.args.store.now)
+    (g.C.Clock.may_give c.args.host.now.clock.now) (g.H.Hub.gives c.args.hub.now) in
     let ids : List TxId = c.args.plan.submits.items in
     let targets = map target_of c.args.plan.contacts.items in
     let door = c.args.plan.door in
@@ -191,7 +162,7 @@ returns-in-Err-open_door-clause-lived g c =
     let new_hub = hub_seen (g.H.Hub.faults c.open_door.new.hub) (g.H.Hub.asked c.open_door.new.hub) in
     let old = known c.args.pass in
     let mid = known c.submit_all.new.pass in
-    let sub = subst (λ (l : List TxId). Submitted start may old l mid) c.deref.ensures.value c.in-Ok.ensures.all in
+    let sub = subst (λ (l : List TxId). Submitted s.start s.may_give old l mid) c.deref.ensures.value c.in-Ok.ensures.all in
     let share = still_whole s ids old mid c.requires.new sub in
     let o = output (g.O.Sink.held c.args.sink.now) (g.O.Sink.faults c.args.sink.now) in
     let d = doing_of ids targets door c.args.plan.pulse old_hub new_hub o o in
@@ -216,6 +187,37 @@ join_crew-pass-requires-clause-workers g c =
     c.hire_all-first.result.1.workers.items c.run-beats.new.crew.workers.items c.run-beats.ensures.served
     c.run-beats.ensures.long
 
+-- what the run and the joins left of the passes
+passes_joined : (g : _) (c : After-drop-submits-2 g) → Joined c.args.store.now
+    (g.C.Clock.may_give c.args.host.now.clock.now) g.H.L.Link.shows g.H.D.Door.shows c.args.plan.pulse
+    c.hire_all-first.result.0 c.split-first.result.1 c.run-beats.new.pass c.join-one.result c.join_crew-pass.result
+    (output (g.O.Sink.held c.args.sink.now) (g.O.Sink.faults c.args.sink.now))
+    (output (g.O.Sink.held c.run-beats.new.sink) (g.O.Sink.faults c.run-beats.new.sink)) c.run-beats.result
+    c.hire_all-first.result.1.porter c.run-beats.new.crew.porter c.hire_all-first.result.1.workers.items
+    c.run-beats.new.crew.workers.items
+passes_joined g c =
+    let store = c.args.store.now in
+    let crew : Crew g.row.H-L.Denot g.row.H-D.Denot = c.hire_all-first.result.1 in
+    let peers : List (Peer g.row.H-L.Denot) = c.in-Ok-open_links.peers.items in
+    let s = setting (start_of store) (turns_of store) (g.C.Clock.may_give c.args.host.now.clock.now)
+    (g.H.Hub.gives c.args.hub.now) in
+    record {
+      beating = c.run-beats.ensures.heartbeat;
+      served = c.run-beats.ensures.served;
+      long = c.run-beats.ensures.long;
+      join = c.join-one.ensures.known;
+      first_seen = c.join-one.ensures.one;
+      beat_seen = c.join-one.ensures.other;
+      keeping = c.run-beats.ensures.kept;
+      joins = c.join_crew-pass.ensures.known;
+      kept_seen = c.join_crew-pass.ensures.porter;
+      one_seen = c.join_crew-pass.ensures.first;
+      each = c.join_crew-pass.ensures.each;
+      all = are_all store c.submit_all.new.pass c.split-first.result.0 c.split-first.result.1 c.hire_all-first.result.0 peers
+          c.in-Ok-open_door.door crew c.hire_all-first.ensures c.split-first.ensures.first c.split-first.ensures.second
+          (still_whole s _ (known c.args.pass) (known c.submit_all.new.pass) c.requires.new c.in-Ok.ensures.all);
+    }
+
 pub returns-clause-lived : goal.returns-clause-lived
 returns-clause-lived g c =
     let store = c.args.store.now in
@@ -234,7 +236,6 @@ returns-clause-lived g c =
     let pass = c.submit_all.new.pass in
     let mid = known pass in
     let sub = subst (λ (l : List TxId). Submitted start may old l mid) c.deref.ensures.value c.in-Ok.ensures.all in
-    let share = still_whole s ids old mid c.requires.new sub in
     let first = c.split-first.result.0 in
     let heart = c.split-first.result.1 in
     let now = c.hire_all-first.result.0 in
@@ -257,21 +258,7 @@ returns-clause-lived g c =
     let beats = c.run-beats.result in
     let last = c.take_last-last.result in
     let new = known c.take_last-last.new.pass in
-    let j : Joined store may shows doors pulse now heart c.run-beats.new.pass c.join-one.result all o1 o2 beats
-    crew.porter after.porter hired ended = record {
-      beating = c.run-beats.ensures.heartbeat;
-      served = c.run-beats.ensures.served;
-      long = c.run-beats.ensures.long;
-      join = c.join-one.ensures.known;
-      first_seen = c.join-one.ensures.one;
-      beat_seen = c.join-one.ensures.other;
-      keeping = c.run-beats.ensures.kept;
-      joins = c.join_crew-pass.ensures.known;
-      kept_seen = c.join_crew-pass.ensures.porter;
-      one_seen = c.join_crew-pass.ensures.first;
-      each = c.join_crew-pass.ensures.each;
-      all = are_all store pass first heart now peers door crew h a b share;
-    } in
+    let j = passes_joined g (goal.at.returns-clause-lived g c).After-drop-submits-2 in
     let same = same_peers store pass first heart now peers door crew h a b in
     let told = subst (λ (ps : List (Peer g.row.H-L.Denot)). AllByRecursion (IsAsTold gives.links shows) ps)
     (sym same) linked.told in
@@ -283,8 +270,7 @@ returns-clause-lived g c =
     let by_peers = worked_from s pulse address (map member_of peers) mid (known now) (known all) o1 o2 beats
     (same_mine store pass first heart now peers door crew h a b)
     (same_seen store pass first heart now peers door crew h a b)
-    (subst
-    (λ (ps : List (Peer g.row.H-L.Denot)).
+    (subst (λ (ps : List (Peer g.row.H-L.Denot)).
     Worked s pulse address (map member_of ps) (known now) o1 beats (known all) o2) same
     (worked store may shows doors pulse now heart c.run-beats.new.pass c.join-one.result
     all o1 o2 beats crew.porter after.porter hired ended j gives address is_door told)) in
@@ -341,118 +327,54 @@ returns-then-not-can_run-clause-recorded g c =
 
 pub returns-in-Err-clause-recorded : goal.returns-in-Err-clause-recorded
 returns-in-Err-clause-recorded g c =
-    let start = start_of c.args.store.now in
-    let turns = turns_of c.args.store.now in
-    let may = g.C.Clock.may_give c.args.host.now.clock.now in
-    let ids : List TxId = c.args.plan.submits.items in
-    let old = known c.args.pass in
-    let mid = known c.submit_all.new.pass in
-    let front = subst (λ (l : List TxId). SubmittedFront start turns may old l c.in-Err.end mid) c.deref.ensures.value
-    c.in-Err.ensures.front in
-    submits_recorded g.R.Recorder.records (retention_of c.args.store.now) turns start may old mid front.done
-    c.args.outlets.now.recorder c.requires.new front.submitted
+    submits_recorded g.R.Recorder.records (retention_of c.args.store.now) (turns_of c.args.store.now)
+    (start_of c.args.store.now) (g.C.Clock.may_give c.args.host.now.clock.now) (known c.args.pass)
+    (known c.submit_all.new.pass) _ c.args.outlets.now.recorder c.requires.new c.in-Err.ensures.front.submitted
 
 pub returns-in-Err-NetFault-clause-recorded : goal.returns-in-Err-NetFault-clause-recorded
 returns-in-Err-NetFault-clause-recorded g c =
-    let start = start_of c.args.store.now in
-    let may = g.C.Clock.may_give c.args.host.now.clock.now in
-    let ids : List TxId = c.args.plan.submits.items in
-    let old = known c.args.pass in
-    let mid = known c.submit_all.new.pass in
-    let sub = subst (λ (l : List TxId). Submitted start may old l mid) c.deref.ensures.value c.in-Ok.ensures.all in
-    submits_recorded g.R.Recorder.records (retention_of c.args.store.now) (turns_of c.args.store.now) start may old mid ids
-    c.args.outlets.now.recorder c.requires.new sub
+    submits_recorded g.R.Recorder.records (retention_of c.args.store.now) (turns_of c.args.store.now)
+    (start_of c.args.store.now) (g.C.Clock.may_give c.args.host.now.clock.now) (known c.args.pass)
+    (known c.submit_all.new.pass) _ c.args.outlets.now.recorder c.requires.new c.in-Ok.ensures.all
 
 pub returns-in-Err-OutOfMemory-clause-recorded : goal.returns-in-Err-OutOfMemory-clause-recorded
 returns-in-Err-OutOfMemory-clause-recorded g c =
-    let start = start_of c.args.store.now in
-    let may = g.C.Clock.may_give c.args.host.now.clock.now in
-    let ids : List TxId = c.args.plan.submits.items in
-    let old = known c.args.pass in
-    let mid = known c.submit_all.new.pass in
-    let sub = subst (λ (l : List TxId). Submitted start may old l mid) c.deref.ensures.value c.in-Ok.ensures.all in
-    submits_recorded g.R.Recorder.records (retention_of c.args.store.now) (turns_of c.args.store.now) start may old mid ids
-    c.args.outlets.now.recorder c.requires.new sub
+    submits_recorded g.R.Recorder.records (retention_of c.args.store.now) (turns_of c.args.store.now)
+    (start_of c.args.store.now) (g.C.Clock.may_give c.args.host.now.clock.now) (known c.args.pass)
+    (known c.submit_all.new.pass) _ c.args.outlets.now.recorder c.requires.new c.in-Ok.ensures.all
 
 pub returns-in_default-clause-recorded : goal.returns-in_default-clause-recorded
 returns-in_default-clause-recorded g c =
-    let start = start_of c.args.store.now in
-    let may = g.C.Clock.may_give c.args.host.now.clock.now in
-    let ids : List TxId = c.args.plan.submits.items in
-    let old = known c.args.pass in
-    let mid = known c.submit_all.new.pass in
-    let sub = subst (λ (l : List TxId). Submitted start may old l mid) c.deref.ensures.value c.in-Ok.ensures.all in
-    submits_recorded g.R.Recorder.records (retention_of c.args.store.now) (turns_of c.args.store.now) start may old mid ids
-    c.args.outlets.now.recorder c.requires.new sub
+    submits_recorded g.R.Recorder.records (retention_of c.args.store.now) (turns_of c.args.store.now)
+    (start_of c.args.store.now) (g.C.Clock.may_give c.args.host.now.clock.now) (known c.args.pass)
+    (known c.submit_all.new.pass) _ c.args.outlets.now.recorder c.requires.new c.in-Ok.ensures.all
 
 pub returns-in-Err-open_door-clause-recorded : goal.returns-in-Err-open_door-clause-recorded
 returns-in-Err-open_door-clause-recorded g c =
-    let start = start_of c.args.store.now in
-    let may = g.C.Clock.may_give c.args.host.now.clock.now in
-    let ids : List TxId = c.args.plan.submits.items in
-    let old = known c.args.pass in
-    let mid = known c.submit_all.new.pass in
-    let sub = subst (λ (l : List TxId). Submitted start may old l mid) c.deref.ensures.value c.in-Ok.ensures.all in
-    submits_recorded g.R.Recorder.records (retention_of c.args.store.now) (turns_of c.args.store.now) start may old mid ids
-    c.args.outlets.now.recorder c.requires.new sub
+    submits_recorded g.R.Recorder.records (retention_of c.args.store.now) (turns_of c.args.store.now)
+    (start_of c.args.store.now) (g.C.Clock.may_give c.args.host.now.clock.now) (known c.args.pass)
+    (known c.submit_all.new.pass) _ c.args.outlets.now.recorder c.requires.new c.in-Ok.ensures.all
 
 pub returns-clause-recorded : goal.returns-clause-recorded
 returns-clause-recorded g c =
     let store = c.args.store.now in
-    let start = start_of store in
     let may = g.C.Clock.may_give c.args.host.now.clock.now in
     let shows = g.H.L.Link.shows in
     let doors = g.H.D.Door.shows in
-    let gives = g.H.Hub.gives c.args.hub.now in
-    let s = setting start (turns_of store) may gives in
-    let ids : List TxId = c.args.plan.submits.items in
-    let pulse = c.args.plan.pulse in
-    let old = known c.args.pass in
     let pass = c.submit_all.new.pass in
-    let mid = known pass in
-    let sub = subst (λ (l : List TxId). Submitted start may old l mid) c.deref.ensures.value c.in-Ok.ensures.all in
-    let share = still_whole s ids old mid c.requires.new sub in
     let first = c.split-first.result.0 in
     let heart = c.split-first.result.1 in
     let now = c.hire_all-first.result.0 in
     let crew : Crew g.row.H-L.Denot g.row.H-D.Denot = c.hire_all-first.result.1 in
-    let after : Crew g.row.H-L.Denot g.row.H-D.Denot = c.run-beats.new.crew in
     let peers : List (Peer g.row.H-L.Denot) = c.in-Ok-open_links.peers.items in
-    let hired : List (Worker g.row.H-L.Denot) = crew.workers.items in
-    let ended : List (Worker g.row.H-L.Denot) = after.workers.items in
     let door = c.in-Ok-open_door.door in
     let h = c.hire_all-first.ensures in
     let a = c.split-first.ensures.first in
     let b = c.split-first.ensures.second in
-    let one = c.join-one.result in
-    let all = c.join_crew-pass.result in
-    let o1 = output (g.O.Sink.held c.args.sink.now) (g.O.Sink.faults c.args.sink.now) in
-    let o2 = output (g.O.Sink.held c.run-beats.new.sink) (g.O.Sink.faults c.run-beats.new.sink) in
-    let j : Joined store may shows doors pulse now heart c.run-beats.new.pass one all o1 o2 c.run-beats.result
-    crew.porter after.porter hired ended = record {
-      beating = c.run-beats.ensures.heartbeat;
-      served = c.run-beats.ensures.served;
-      long = c.run-beats.ensures.long;
-      join = c.join-one.ensures.known;
-      first_seen = c.join-one.ensures.one;
-      beat_seen = c.join-one.ensures.other;
-      keeping = c.run-beats.ensures.kept;
-      joins = c.join_crew-pass.ensures.known;
-      kept_seen = c.join_crew-pass.ensures.porter;
-      one_seen = c.join_crew-pass.ensures.first;
-      each = c.join_crew-pass.ensures.each;
-      all = are_all store pass first heart now peers door crew h a b share;
-    } in
-    let quiet : (history : List Entry) → IsPrefix (known all).seen history
-    → AllByRecursion (IsQuietAt history) (known now).mine = λ history begins.
-    let begun = subst (λ (l : List Entry). IsPrefix l history)
-    (same_seen store pass first heart now peers door crew h a b)
-    (prefix_trans (known now).seen (known one).seen history j.first_seen
-    (prefix_trans (known one).seen (known all).seen history j.one_seen begins)) in
-    subst (λ (l : List ℕ). AllByRecursion (IsQuietAt history) l)
-    (sym (same_mine store pass first heart now peers door crew h a b))
-    (quiet_first start may old mid ids history c.requires.new sub begun) in
-    all_recorded store may shows doors pulse now heart c.run-beats.new.pass one all o1 o2 c.run-beats.result
-    crew.porter after.porter hired ended j g.R.Recorder.records (retention_of store) c.args.outlets.now.recorder
+    let j = passes_joined g (goal.at.returns-clause-recorded g c).After-drop-submits-2 in
+    let quiet = still_quiet store may shows doors j (known c.args.pass) (known pass) _ c.requires.new c.in-Ok.ensures.all
+    (same_mine store pass first heart now peers door crew h a b)
+    (same_seen store pass first heart now peers door crew h a b) in
+    all_recorded store may shows doors j g.R.Recorder.records (retention_of store) c.args.outlets.now.recorder
     c.run-beats.new.outlets.recorder c.take_last-last.new.recorder (known c.take_last-last.new.pass) quiet
     c.run-beats.ensures.recorded c.take_last-last.ensures.recorded
