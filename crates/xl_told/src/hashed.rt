@@ -1,30 +1,36 @@
 // What was hashed last.
-ghost use Rattle.std.specs.Prelude.{◌≡◌, ◌<◌, ◌++◌, All, IfOk, IfSome, IsTrue, length, OnOk};
+ghost use Rattle.std.specs.Prelude.{◌≡◌, ◌<◌, ◌++◌, [], All, IfOk, IfSome, IsTrue, length, OnOk};
 ghost use Rattle.std.specs.String.{string_bytes};
 ghost use Rattle.hex.specs.Hex.{encode_lower};
 ghost use Rattle.xl_base.specs.Sets.{set_id_of};
 ghost use Rattle.xl_ledger.specs.Headers.{header_id};
 ghost use Rattle.xl_ledger.specs.Reading.{header_in};
-ghost use Rattle.xl_told.specs.Hashed.{IsNamedHeader, IsNamedSet, IsSpelled};
+ghost use Rattle.xl_told.specs.Hashed.{IsNamedHeader, IsNamedSet, IsSpelled, IsSpelledProposal};
+ghost use Rattle.xl_told.specs.Words.{proposal_text};
 
+use crate::words::push_nameless;
 use std::alloc::Global;
 use std::marker::Model;
 use xl_base::{LedgerId, OutOfMemory, SetId, TxId, set_id};
 use xl_ledger::{id_of, read_header};
-use xl_wire::Ids;
+use xl_wire::{Ids, Proposal};
 
 /// For how many ids their digits are kept.
 const SPELLED: usize = 64;
 
+/// The bytes of a proposal's words, if none of its ids has a name, in this century.
+const WORDS: usize = 152;
+
 /// The header and the set that were hashed last, with their ids: what is said to several is hashed once. So ids are
-/// spelled once.
+/// spelled once, and the proposal that was spelled last.
 #[derive(Drop)]
 pub struct Hashed {
     alloc: Global,
     header: Option<NamedHeader>,
     set: Option<NamedSet>,
-    /// Each in the place of its first byte.
+    /// Each in a place that hangs on its bytes.
     spelled: Vec<SpelledId>,
+    proposal: Option<SpelledProposal>,
 }
 
 /// An id and its digits.
@@ -32,6 +38,13 @@ pub struct Hashed {
 struct SpelledId {
     id: LedgerId,
     digits: String,
+}
+
+/// A proposal and its words, if none of its ids has a name.
+#[derive(Drop)]
+struct SpelledProposal {
+    proposal: Proposal,
+    words: String,
 }
 
 /// The bytes of a header, and its ledger's id.
@@ -50,14 +63,14 @@ struct NamedSet {
 
 impl Model for Hashed {
     ghost use Rattle.std.specs.Prelude.{◌≡◌, All, IfSome, length};
-    ghost use Rattle.xl_told.specs.Hashed.{IsNamedHeader, IsNamedSet, IsSpelled};
+    ghost use Rattle.xl_told.specs.Hashed.{IsNamedHeader, IsNamedSet, IsSpelled, IsSpelledProposal};
 
     ghost Value = { Unit {0} };
 
     ghost view = { λ _. tt };
 
     ghost invariant = { λ h. IfSome h.header IsNamedHeader × IfSome h.set IsNamedSet
-        × All IsSpelled h.spelled.items × length h.spelled.items ≡ 64 };
+        × All IsSpelled h.spelled.items × length h.spelled.items ≡ 64 × IfSome h.proposal IsSpelledProposal };
 }
 
 fn are_same_bytes(one: &[u8], other: &[u8]) -> bool
@@ -161,6 +174,25 @@ fn known_digits<'a>(spelled: &'a [SpelledId], place: usize, id: &LedgerId) -> Op
     }
 }
 
+fn is_same_proposal(one: &Proposal, other: &Proposal) -> bool
+    ensures { IsTrue result → one.now ≡ other.now }
+{
+    one == other
+}
+
+/// The words of a proposal, if it is the kept one.
+fn known_words<'a>(kept: &'a Option<SpelledProposal>, proposal: &Proposal) -> Option<&'a str>
+    requires { IfSome kept.now IsSpelledProposal }
+    ensures { IfSome result (λ words. words.now ≡ proposal_text [] proposal.now) }
+{
+    match kept {
+        Some(spelled) if is_same_proposal(&spelled.proposal, proposal) => {
+            Some(spelled.words.as_str())
+        }
+        _ => None,
+    }
+}
+
 impl Hashed {
     /// Nothing was hashed yet. Refused only when memory runs out.
     pub fn none(alloc: Global) -> Result<Hashed, OutOfMemory> {
@@ -169,6 +201,7 @@ impl Hashed {
             header: None,
             set: None,
             spelled: spell_each(alloc)?,
+            proposal: None,
         })
     }
 
@@ -180,7 +213,7 @@ impl Hashed {
     ) -> Result<(), OutOfMemory>
         ensures { OnOk result (string_bytes text.new ≡ string_bytes text.old ++ encode_lower id.now.0) }
     {
-        let place = (id.0[0] % 64) as usize;
+        let place = ((id.0[0] ^ id.0[31]) % 64) as usize;
         if let Some(digits) = known_digits(self.spelled.as_slice(), place, id) {
             return Ok(text.push_str(digits)?);
         }
@@ -199,8 +232,37 @@ impl Hashed {
         Ok(())
     }
 
+    /// The words of a proposal none of whose ids has a name, added to a text.
+    pub(crate) fn push_proposal(
+        &mut self,
+        text: &mut String,
+        proposal: &Proposal,
+    ) -> Result<(), OutOfMemory>
+        ensures { OnOk result (string_bytes text.new ≡ string_bytes text.old ++ proposal_text [] proposal.now) }
+    {
+        if let Some(words) = known_words(&self.proposal, proposal) {
+            return Ok(text.push_str(words)?);
+        }
+        let spelled = self.spell_proposal(proposal)?;
+        text.push_str(spelled.words.as_str())?;
+        self.proposal = Some(spelled);
+        Ok(())
+    }
+
+    fn spell_proposal(&mut self, proposal: &Proposal) -> Result<SpelledProposal, OutOfMemory>
+        ensures spelled { IfOk result IsSpelledProposal }
+        ensures same { IfOk result (λ spelled. spelled.proposal ≡ proposal.now) }
+    {
+        let mut words = String::with_capacity(self.alloc, WORDS)?;
+        push_nameless(&mut words, self, proposal)?;
+        Ok(SpelledProposal {
+            proposal: *proposal,
+            words,
+        })
+    }
+
     /// The id of the ledger whose header is spelled so.
-    pub(crate) fn header_id(&mut self, bytes: &[u8; 118]) -> LedgerId
+    pub fn header_id(&mut self, bytes: &[u8; 118]) -> LedgerId
         ensures { result ≡ header_id (header_in bytes.now) }
     {
         match known_header(&self.header, bytes) {

@@ -1,8 +1,9 @@
 // Words that several lines share, added to a text.
-ghost use Rattle.std.specs.Prelude.{◌≡◌, ◌<◌, ◌/◌, ◌%◌, ◌++◌, ◌∷◌, codes, decimal, OnOk};
+ghost use Rattle.std.specs.Prelude.{◌≡◌, ◌<◌, ◌/◌, ◌%◌, ◌++◌, ◌∷◌, [], codes, decimal, IsTrue, None, OnOk};
 ghost use Rattle.std.specs.List.{flat_map};
 ghost use Rattle.std.specs.String.{string_bytes};
 ghost use Rattle.xl_running.specs.Texts.{id_text, space};
+ghost use Rattle.xl_sched.specs.Names.{name_of};
 ghost use Rattle.xl_told.specs.Words.{
   fullness_text,
   ids_text,
@@ -65,9 +66,8 @@ fn push_digits(text: &mut String, number: u64) -> Result<(), OutOfMemory>
     Ok(())
 }
 
-/// A number, in decimal digits.
-// Most have few digits.
-pub fn push_number(text: &mut String, number: u64) -> Result<(), OutOfMemory>
+/// A number that may have several digits.
+fn push_several(text: &mut String, number: u64) -> Result<(), OutOfMemory>
     ensures { OnOk result (string_bytes text.new ≡ string_bytes text.old ++ decimal number) }
 {
     if number < 100 {
@@ -78,6 +78,18 @@ pub fn push_number(text: &mut String, number: u64) -> Result<(), OutOfMemory>
         return push_pair(text, number % 100);
     }
     push_digits(text, number)
+}
+
+/// A number, in decimal digits.
+// Most have one digit, which is put where this is called.
+#[inline(always)]
+pub fn push_number(text: &mut String, number: u64) -> Result<(), OutOfMemory>
+    ensures { OnOk result (string_bytes text.new ≡ string_bytes text.old ++ decimal number) }
+{
+    if number < 10 {
+        return push_digit(text, number as u8);
+    }
+    push_several(text, number)
 }
 
 /// A word and a number.
@@ -263,7 +275,31 @@ pub fn push_validation(
     push_validated(text, reader, hashed, &validation.validated)
 }
 
-pub fn push_proposal(
+/// The numbers of a proposal, each behind a space.
+fn push_proposal_numbers(text: &mut String, proposal: &Proposal) -> Result<(), OutOfMemory>
+    ensures { OnOk result (string_bytes text.new ≡ string_bytes text.old
+        ++ (space ++ decimal proposal.now.pseq ++ space ++ decimal proposal.now.close ++ space ++ decimal proposal.now.time)) }
+{
+    push_numbered(text, " ", u64::from(proposal.pseq))?;
+    push_numbered(text, " ", u64::from(proposal.close))?;
+    push_numbered(text, " ", u64::from(proposal.time))
+}
+
+/// A proposal with its ids in digits.
+pub(crate) fn push_nameless(
+    text: &mut String,
+    hashed: &mut Hashed,
+    proposal: &Proposal,
+) -> Result<(), OutOfMemory>
+    ensures { OnOk result (string_bytes text.new ≡ string_bytes text.old ++ proposal_text [] proposal.now) }
+{
+    hashed.push_digits(text, &proposal.prev)?;
+    text.push(' ')?;
+    hashed.push_digits(text, &LedgerId(proposal.set.0))?;
+    push_proposal_numbers(text, proposal)
+}
+
+fn push_named(
     text: &mut String,
     reader: &Reader,
     hashed: &mut Hashed,
@@ -275,7 +311,36 @@ pub fn push_proposal(
     push_id(text, reader, hashed, &proposal.prev)?;
     text.push(' ')?;
     push_set_id(text, reader, hashed, &proposal.set)?;
-    push_numbered(text, " ", u64::from(proposal.pseq))?;
-    push_numbered(text, " ", u64::from(proposal.close))?;
-    push_numbered(text, " ", u64::from(proposal.time))
+    push_proposal_numbers(text, proposal)
+}
+
+fn has_no_name(reader: &Reader, id: &[u8; 32]) -> bool
+    ensures { IsTrue result → name_of reader.now.names id.now ≡ None }
+{
+    reader.name_of(id).is_none()
+}
+
+/// Whether none of a proposal's ids has a name.
+fn is_nameless(reader: &Reader, proposal: &Proposal) -> bool
+    ensures { IsTrue result → proposal_text reader.now.names proposal.now ≡ proposal_text [] proposal.now }
+{
+    if !has_no_name(reader, &proposal.prev.0) {
+        return false;
+    }
+    has_no_name(reader, &proposal.set.0)
+}
+
+pub fn push_proposal(
+    text: &mut String,
+    reader: &Reader,
+    hashed: &mut Hashed,
+    proposal: &Proposal,
+) -> Result<(), OutOfMemory>
+    ensures { OnOk result (string_bytes text.new
+        ≡ string_bytes text.old ++ proposal_text reader.now.names proposal.now) }
+{
+    if is_nameless(reader, proposal) {
+        return hashed.push_proposal(text, proposal);
+    }
+    push_named(text, reader, hashed, proposal)
 }

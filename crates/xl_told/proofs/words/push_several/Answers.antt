@@ -4,7 +4,7 @@ use Rattle.std.specs.Prelude.{OnOk, decimal}
 use Rattle.std.specs.String.{string_bytes}
 use Rattle.xl_told.proofs.Digits.{four_digits}
 use Rattle.xl_told.proofs.Writing.{behind}
-use Rattle.xl_told.proofs.words.push_number.Goals as goal
+use Rattle.xl_told.proofs.words.push_several.Goals as goal
 
 pub returns-then-number-lt10000 : goal.returns-then-number-lt10000
 returns-then-number-lt10000 c =
