@@ -2,7 +2,9 @@
 use Rattle.std.proofs.Common.{◌≡◌, Bool, true, false, None, refl, ap, sym, subst, inl, inr, ◌∙◌, length}
 use Rattle.std.specs.Prelude.{is_some}
 use Rattle.std.proofs.lemmas.Result.{on_err_weaker}
+use Rattle.xl_heartbeat.specs.declared.outlets.Outlets.{Outlets}
 use Rattle.xl_heartbeat.specs.Outputs.{Output, output}
+use Rattle.xl_recorder.specs.declared.file_recorder.FileRecorder.{FileRecorder}
 use Rattle.xl_audit.specs.Rereading.{SaysYes}
 use Rattle.xl_base.specs.declared.status.Status.{Status}
 use Rattle.xl_base.specs.declared.status.Status.TheVariants as status
@@ -127,7 +129,8 @@ returns-in-Ok-prepare g c =
           c.args.reached.bulletin c.node-ran.new.outlets.bulletin last c.status_left-last.result
           left.result.0.journal (is_some made.result) left.result.0.status done.result.status
           (end_by c.record_left-entries.new.recorder)
-          c.in-Ok-prepare.ensures.core ran.life ran.told (on_err_weaker c.node-ran.result (λ same. ap (λ o. o.bulletin) same) ran.untold)
+          c.in-Ok-prepare.ensures.core ran.life ran.told (on_err_weaker {Q = c.node-ran.new.outlets.bulletin ≡ c.args.reached.bulletin} c.node-ran.result
+          (λ same. ap (λ (o : Outlets g.row.D.Denot (FileRecorder g.row.J.Denot)). o.bulletin) same) ran.untold)
           c.status_left-last.ensures left.ensures.journal
           left.ensures.status done.ensures.left done.ensures.none with_it ends;
       follows = by_file g.J.Sink.held g.J.Sink.faults s c.args.judged.now c.in-Ok.kept
@@ -135,7 +138,8 @@ returns-in-Ok-prepare g c =
           c.recorder_of-recorder.result c.node-ran.new.outlets.recorder c.record_left-entries.new.recorder left.result.1
           left.result.0.journal c.node-ran.result s.journal_file s.journal c.args.reached.file done.result.journal
           c.requires.file c.in-Ok-prepare.ensures.keeps c.requires.runnable.apart c.recorder_of-recorder.ensures
-          ran.recorded (on_err_weaker c.node-ran.result (λ same. ap (λ o. o.recorder) same) ran.untold)
+          ran.recorded (on_err_weaker {Q = c.node-ran.new.outlets.recorder ≡ c.recorder_of-recorder.result} c.node-ran.result
+          (λ same. ap (λ (o : Outlets g.row.D.Denot (FileRecorder g.row.J.Denot)). o.recorder) same) ran.untold)
           left.ensures.left ran.kept left.ensures.journal c.record_left-entries.ensures.recorded
           (λ before. (done.ensures.left (ap (λ (b : Bool). is_written b left.result.0.status) (made.ensures.asked ∙ before))).1);
     }
