@@ -55,19 +55,13 @@ pub(crate) fn prepare(alloc: Global, judged: Judged, kept: Seq) -> Result<Prepar
         validating,
         limit,
         turns,
-        heartbeat_ms: _,
-        run_ms: _,
         submit,
         peers,
         speak,
         publishing,
-        journal: _,
-        journal_keys: _,
-        journal_file: _,
-        journal_bytes: _,
-        status: _,
         rolls,
         submit_at,
+        ..
     } = settings;
     let pulse = Pulse {
         timing,

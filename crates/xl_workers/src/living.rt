@@ -117,12 +117,11 @@ pub(crate) fn live<
         outlets.old.recorder outlets.new.recorder }
 {
     let Plan {
-        turns: _,
-        retention: _,
         submits,
         contacts,
         door,
         pulse,
+        ..
     } = plan;
     if !can_run(host.rt, contacts.len() + threads_beside(&door)) {
         return (RunEnd::TooFewThreads, pass);
