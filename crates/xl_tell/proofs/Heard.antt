@@ -2,7 +2,7 @@
 use Rattle.std.proofs.Common.{◌≡◌, ℕ, zero, suc, ◌/◌, ◌≤◌, Bool, true, false, List, [], length, arith, refl, ap, sym, ◌∙◌, subst, Option, Some, None, Ok, append-nil}
 use Rattle.std.specs.Prelude.{max, nat_lt, option_map}
 use Rattle.std.specs.Option.{option_and_then}
-use Rattle.std.proofs.lemmas.Bool.{cond-false}
+use Rattle.std.proofs.lemmas.Bool.{cond-false, cond_both}
 use Rattle.std.proofs.lemmas.Bool.Decides.{nat_tests}
 use Rattle.xl_base.specs.Refusals.{unless_refused}
 use Rattle.xl_base.specs.declared.ids.TxId.{TxId}
@@ -66,10 +66,11 @@ use Rattle.xl_world.proofs.Putting.{put_at}
 use Rattle.xl_world.proofs.Settling.{at_its_number}
 use Rattle.xl_tell.specs.declared.before.Before.{Before}
 use Rattle.xl_tell.specs.declared.before.Before.TheVariants as before
-use Rattle.xl_tell.specs.Before.{Delivers, IsBrief, Says, SaysSet, Tells, TellsOf, asked_of, heard_noted, number_of, told_at, told_by, told_of}
+use Rattle.xl_tell.specs.Before.{Delivers, IsBrief, Says, SaysSet, Tells, TellsOf, asked_of, frame_noted, heard_noted, is_known, number_of, told_at, told_by, told_of}
 use Rattle.xl_tell.specs.Nodes.{changed_at, changed_in, node_of, noted_at}
 use Rattle.xl_tell.specs.Parts.{new_holdings}
 use Rattle.xl_tell.proofs.Currents.{core_is_current}
+use Rattle.xl_tell.proofs.Knowing.{known_leaves_rest}
 
 -- WHO SAYS IT
 
@@ -189,16 +190,17 @@ told_there w e i core names at there =
     ap (λ (o : Option Core). changed_at names (Some i) (option_map (λ (c : Core). noted c.node) o) (after_event w e)) (sym there)
     ∙ ap (λ (o : Option ℕ). changed_at names o (noted_at w o) (after_event w e)) (sym at)
 
--- what is told of a node that hears a frame of a member within a second
-hearing_told : (names : List Named) (w : World) (e : Event) (frame : Sent) (core : Core) (what : Speech) →
+-- What is told of a node that hears a frame of a member within a second, by what that leaves of it: what a member says of
+-- this kind may change.
+hearing_by : (names : List Named) (w : World) (e : Event) (frame : Sent) (core : Core) (what kind : Speech) →
     Delivers w e.what frame → IsRun w → core_in w frame.to ≡ Some core → Says frame what → 1 ≤ frame.from → IsValid core.node.list → is_on core.node.list.members frame.from ≡ true →
-    max core.node.time e.at / 1000 ≡ core.node.time / 1000 →
-    told_by names (heard_noted frame.to core.node frame.from what) (after_event w e) ≡ new_holdings names w e
-hearing_told names w e frame core what delivers came there says low valid on same =
+    max core.node.time e.at / 1000 ≡ core.node.time / 1000 → LeavesRest kind core.node (bytes_reply (at_moment e.at core.node) frame.bytes).node →
+    told_by names (heard_noted frame.to core.node frame.from kind) (after_event w e) ≡ new_holdings names w e
+hearing_by names w e frame core what kind delivers came there says low valid on same leaves_rest =
     let i : ℕ = frame.to in
     let m : ℕ = frame.from in
     let n : Node = core.node in
-    let told : Before = heard_noted i n m what in
+    let told : Before = heard_noted i n m kind in
     let heard : HasHappened w i (Frame e.at frame.bytes) core = has_happened w i (Frame e.at frame.bytes) core there in
     let n' : Node = heard.later.node in
     let after : core_in (after_event w e) i ≡ Some heard.later = ap (λ (ss : List Step). core_in (run w ss) i) (delivers.steps e.at) ∙ heard.there in
@@ -208,13 +210,26 @@ hearing_told names w e frame core what delivers came there says low valid on sam
     subst (λ (x : Node). LeavesOthers m n x) (sym heard.node)
     (subst (λ (k : ℕ). LeavesOthers k n (bytes_reply (at_moment e.at n) frame.bytes).node) speaker
     (hearing_leaves e.at n frame.bytes current same (subst (λ (k : ℕ). 1 ≤ k) (sym speaker) low))) in
-    let rest : LeavesRest what n n' =
-    subst (λ (x : Node). LeavesRest what n x) (sym heard.node)
-    (subst (λ (said : Spoken). LeavesRest said.what n (bytes_reply (at_moment e.at n) frame.bytes).node) says (hearing_leaves_rest e.at n frame.bytes current same)) in
-    of_its_number names i n m what (after_event w e)
+    let rest : LeavesRest kind n n' = subst (λ (x : Node). LeavesRest kind n x) (sym heard.node) leaves_rest in
+    of_its_number names i n m kind (after_event w e)
     ∙ (ap (told_at names told) after
-    ∙ (kind_told names i m n n' what leaves valid on rest
+    ∙ (kind_told names i m n n' kind leaves valid on rest
     ∙ (ap (changed_in names i (noted n)) (sym after) ∙ told_there w e i core names delivers.node there)))
+
+-- what is told of it is what it hears, and nothing but the time of what it knows
+hearing_told : (names : List Named) (w : World) (e : Event) (frame : Sent) (core : Core) (what : Speech) →
+    Delivers w e.what frame → IsRun w → core_in w frame.to ≡ Some core → Says frame what → 1 ≤ frame.from → IsValid core.node.list → is_on core.node.list.members frame.from ≡ true →
+    max core.node.time e.at / 1000 ≡ core.node.time / 1000 →
+    told_by names (frame_noted frame.to core.node frame.from what) (after_event w e) ≡ new_holdings names w e
+hearing_told names w e frame core what delivers came there says low valid on same =
+    let n : Node = core.node in
+    let n' : Node = (bytes_reply (at_moment e.at n) frame.bytes).node in
+    let current = core_is_current w came frame.to core there in
+    cond_both (is_known n what) (before.Time frame.to n.time) (heard_noted frame.to n frame.from what) (λ b. told_by names b (after_event w e) ≡ new_holdings names w e)
+    (λ known. hearing_by names w e frame core what (speech.TxSet []) delivers came there says low valid on same
+    (known_leaves_rest e.at n frame.bytes current same (ap (λ (said : Spoken). is_known n said.what) says ∙ known)))
+    (λ _. hearing_by names w e frame core what what delivers came there says low valid on same
+    (subst (λ (said : Spoken). LeavesRest said.what n n') says (hearing_leaves_rest e.at n frame.bytes current same)))
 
 -- what is told by all that the node held
 pub whole_tells : (w : World) (e : Event) (i : ℕ) (core : Core) (b : Before) → node_of w e.what ≡ Some i → Some core ≡ core_in w i → number_of b ≡ Some i →
@@ -288,11 +303,11 @@ nowhere_tells w e at names = ap (λ (o : Option ℕ). changed_at names o (noted_
 -- what is told by what may be new
 pub hearing_tells : (w : World) (e : Event) (frame : Sent) (i : ℕ) (core : Core) (n : Node) (what : Speech) →
     Delivers w e.what frame → IsBrief w frame.to e.at frame.from → i ≡ frame.to → Some core ≡ core_in w i → n ≡ core.node → Says frame what → 1 ≤ frame.from → (names : List Named) →
-    told_by names (heard_noted i n frame.from what) (after_event w e) ≡ new_holdings names w e
+    told_by names (frame_noted i n frame.from what) (after_event w e) ≡ new_holdings names w e
 hearing_tells w e frame i core n what delivers brief to there is says low names =
     let same : core ≡ brief.core = same_core core brief.core (there ∙ (ap (core_in w) to ∙ brief.there)) in
-    ap (λ (j : ℕ). told_by names (heard_noted j n frame.from what) (after_event w e)) to
-    ∙ (ap (λ (x : Node). told_by names (heard_noted frame.to x frame.from what) (after_event w e)) (is ∙ ap (λ (c : Core). c.node) same)
+    ap (λ (j : ℕ). told_by names (frame_noted j n frame.from what) (after_event w e)) to
+    ∙ (ap (λ (x : Node). told_by names (frame_noted frame.to x frame.from what) (after_event w e)) (is ∙ ap (λ (c : Core). c.node) same)
     ∙ hearing_told names w e frame brief.core what delivers brief.came brief.there says low brief.valid brief.listed brief.within)
 
 -- there is such a node

@@ -2,6 +2,7 @@ pub mod Writing
 pub mod Sealed
 pub mod Frames
 pub mod Currents
+pub mod Knowing
 pub mod Heard
 pub mod Telling
 pub mod Going

@@ -1,5 +1,5 @@
 -- What is noted before a part of an event, and what is told by it. Source: what the code of this crate keeps.
-use Rattle.std.specs.Prelude.{◌≡◌, ◌/◌, ℕ, All, max, true, List, [], Option, Some, None}
+use Rattle.std.specs.Prelude.{◌≡◌, ◌/◌, ℕ, All, Bool, max, true, false, List, [], Option, Some, None, is_some, if◌then◌else◌}
 use Rattle.std.specs.Option.{option_and_then}
 use Rattle.xl_base.specs.declared.ids.TxId.{TxId}
 use Rattle.xl_core.specs.Core.{Core}
@@ -11,6 +11,8 @@ use Rattle.xl_core.specs.Rest.{IsCurrent}
 use Rattle.xl_held.specs.Asking.{beat_told, issue_told}
 use Rattle.xl_held.specs.Changes.{changed_lines}
 use Rattle.xl_held.specs.Hearing.{header_heard, proposal_heard, set_heard, tx_heard, vote_heard}
+use Rattle.xl_ledger.specs.Chains.{place_of}
+use Rattle.xl_ledger.specs.Headers.{header_id}
 use Rattle.xl_lists.specs.Lists.{IsValid, is_on}
 use Rattle.xl_noted.specs.Hearing.{ledgers_noted, pending_noted, position_noted, vote_noted}
 use Rattle.xl_noted.specs.Noted.{noted}
@@ -69,6 +71,18 @@ heard_noted i n m (speech.Proposal p) = before.Position i (position_noted n m)
 heard_noted i n m (speech.Header h) = before.Ledgers i (ledgers_noted n)
 heard_noted i n m (speech.TxSet ids) = before.Time i n.time
 heard_noted i n m (speech.Tx tx) = before.Pending i (pending_noted n)
+
+-- what a member says is a header of a ledger that the node knows
+abbrev pub is_known : Node → Speech → Bool
+is_known n (speech.Header h) = is_some (place_of n.ledgers.headers (header_id h))
+is_known n (speech.Validation v) = false
+is_known n (speech.Proposal p) = false
+is_known n (speech.TxSet ids) = false
+is_known n (speech.Tx tx) = false
+
+-- nothing but the time, if it is that: it refuses it
+abbrev pub frame_noted : ℕ → Node → ℕ → Speech → Before
+frame_noted i n m what = if is_known n what then before.Time i n.time else heard_noted i n m what
 
 -- a frame's sender says this in it
 abbrev pub Says : Sent → Speech → Type 0

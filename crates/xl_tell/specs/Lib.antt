@@ -3,3 +3,4 @@ pub mod Parts
 pub mod Tellings
 pub mod OwnLines
 pub mod Before
+pub mod Echoes

@@ -6,13 +6,14 @@ ghost use Rattle.xl_core.specs.Node.{Issue, Timer};
 ghost use Rattle.xl_lists.specs.Lists.{IsValid, is_on};
 ghost use Rattle.xl_noted.specs.Asking.{is_open as is_open_by};
 ghost use Rattle.xl_rounds.specs.Positions.{count};
-ghost use Rattle.xl_tell.specs.Before.{Delivers, IsBrief, Says, SaysSet, Tells, TellsOf, asked_of, heard_noted, number_of};
+ghost use Rattle.xl_tell.specs.Before.{Delivers, IsBrief, Says, SaysSet, Tells, TellsOf, asked_of, frame_noted, heard_noted, number_of};
 ghost use Rattle.xl_tell.specs.Nodes.{node_of};
 ghost use Rattle.xl_world.specs.Sending.{body_said, said_to, sent_as};
 ghost use Rattle.xl_world.specs.World.{core_in};
 
-use crate::delivery::{frame_of, is_set, saying};
+use crate::delivery::{frame_of, is_known, is_set, saying};
 use crate::nodes::{node_asked, node_of as node_number};
+use crate::sent::Speller;
 use std::alloc::Global;
 use xl_base::{Millis, NodeNo, OutOfMemory};
 use xl_core::Node;
@@ -20,8 +21,8 @@ use xl_noted::{
     Noted, NotedBeat, NotedIssue, NotedLedgers, NotedPending, NotedPosition, NotedVote, is_open,
 };
 use xl_sched::{Ask, Event, What};
+use xl_told::Hashed;
 use xl_trie::Trie;
-use xl_wire::LONGEST_FRAME;
 use xl_world::{Said, Sent, World};
 
 /// What is noted before a part of an event.
@@ -65,7 +66,7 @@ pub enum Before {
         number: NodeNo,
         noted: NotedBeat,
     },
-    /// Its time, which alone may be new once it has heard a set.
+    /// Its time, which alone may be new once it has heard a set, or the header of a ledger that it knows.
     Time {
         number: NodeNo,
         noted: Millis,
@@ -161,8 +162,34 @@ fn note_said(node: &Node<Trie>, number: NodeNo, member: NodeNo, said: &Said, bef
     }
 }
 
+/// The same, but of a header that it knows and refuses nothing but its time.
+fn note_heard(
+    node: &Node<Trie>,
+    number: NodeNo,
+    member: NodeNo,
+    said: &Said,
+    hashed: &mut Hashed,
+    before: &mut Before,
+)
+    ensures { before.new ≡ frame_noted number node.now member (speech_of (body_said said.now)) }
+{
+    if is_known(node, hashed, said) {
+        let noted = node.time();
+        *before = Before::Time { number, noted };
+        return;
+    }
+    note_said(node, number, member, said, before);
+}
+
 /// What the node of a number holds that may be new once it has heard the frame that says this.
-fn note_hearing(world: &World, event: &Event, frame: &Sent<'_>, said: &Said, before: &mut Before)
+fn note_hearing(
+    world: &World,
+    event: &Event,
+    frame: &Sent<'_>,
+    said: &Said,
+    hashed: &mut Hashed,
+    before: &mut Before,
+)
     requires delivers { Delivers world.now event.now.what frame.now }
     requires says { Says frame.now (speech_of (body_said said.now)) }
     requires brief { IsBrief world.now frame.now.to event.now.at frame.now.from }
@@ -170,7 +197,7 @@ fn note_hearing(world: &World, event: &Event, frame: &Sent<'_>, said: &Said, bef
 {
     let number = frame.to();
     match world.node(number) {
-        Some(core) => note_said(core.node(), number, frame.from(), said, before),
+        Some(core) => note_heard(core.node(), number, frame.from(), said, hashed, before),
         None => *before = Before::Nobody,
     }
 }
@@ -199,7 +226,7 @@ fn note_listener(
     world: &World,
     event: &Event,
     frame: &Sent<'_>,
-    room: &mut [u8; LONGEST_FRAME],
+    speller: &mut Speller,
     before: &mut Before,
 ) -> Result<(), OutOfMemory>
     requires delivers { Delivers world.now event.now.what frame.now }
@@ -208,10 +235,10 @@ fn note_listener(
 {
     if let Some(said) = frame.said() {
         saying(frame.from(), frame.to(), said);
-        note_hearing(world, event, frame, said, before);
+        note_hearing(world, event, frame, said, &mut speller.hashed, before);
         return Ok(());
     }
-    if is_set(frame, room) {
+    if is_set(frame, &mut speller.room) {
         note_set(world, event, frame, before);
         return Ok(());
     }
@@ -224,14 +251,14 @@ fn note_receiver(
     world: &World,
     event: &Event,
     frame: &Sent<'_>,
-    room: &mut [u8; LONGEST_FRAME],
+    speller: &mut Speller,
     before: &mut Before,
 ) -> Result<(), OutOfMemory>
     requires { Delivers world.now event.now.what frame.now }
     ensures { OnOk result (Tells world.now event.now before.new) }
 {
     if is_brief_at(world, frame.to(), event.at, frame.from()) {
-        return note_listener(alloc, world, event, frame, room, before);
+        return note_listener(alloc, world, event, frame, speller, before);
     }
     note_whole(alloc, world, event, frame.to(), before)
 }
@@ -359,19 +386,19 @@ fn note_else(
     }
 }
 
-/// What is noted before a part of an event. Refused only when memory runs out. The room is written over.
+/// What is noted before a part of an event. Refused only when memory runs out. The speller's room is written over.
 // What is noted is large, and an answer would be copied on its way.
 pub fn note_before(
     alloc: Global,
     world: &World,
     event: &Event,
-    room: &mut [u8; LONGEST_FRAME],
+    speller: &mut Speller,
     before: &mut Before,
 ) -> Result<(), OutOfMemory>
     ensures { OnOk result (Tells world.now event.now before.new) }
 {
     match frame_of(world, &event.what) {
-        Some(frame) => note_receiver(alloc, world, event, &frame, room, before),
+        Some(frame) => note_receiver(alloc, world, event, &frame, speller, before),
         None => note_else(alloc, world, event, before),
     }
 }

@@ -1,12 +1,16 @@
 // The frame that a part of an event delivers.
-ghost use Rattle.std.specs.Prelude.{◌≡◌, IfSome, IsTrue};
+ghost use Rattle.std.specs.Prelude.{◌≡◌, IfSome, IsTrue, is_some};
 ghost use Rattle.xl_core.specs.Hearing.{speech_of};
-ghost use Rattle.xl_tell.specs.Before.{Delivers, Says, SaysSet};
+ghost use Rattle.xl_ledger.specs.Chains.{place_of};
+ghost use Rattle.xl_tell.specs.Before.{Delivers, Says, SaysSet, is_known as is_known_by};
 ghost use Rattle.xl_world.specs.Sending.{body_said, said_to, sent_as};
 
 use crate::nodes::frame_at;
-use xl_base::NodeNo;
+use xl_base::{LedgerId, NodeNo};
+use xl_core::Node;
 use xl_sched::What;
+use xl_told::Hashed;
+use xl_trie::Trie;
 use xl_wire::{LONGEST_FRAME, Parted, split};
 use xl_world::{Said, Sent, World};
 
@@ -50,4 +54,26 @@ pub(crate) fn is_set(frame: &Sent<'_>, room: &mut [u8; LONGEST_FRAME]) -> bool
 {
     let length = frame.put(room);
     is_kept_set(frame, &room[..length])
+}
+
+/// Whether the node knows the ledger of this id.
+fn knows(node: &Node<Trie>, id: &LedgerId) -> bool
+    ensures { result ≡ is_some (place_of node.now.ledgers.headers id.now) }
+{
+    node.registry().find(id).is_some()
+}
+
+/// Whether it is a header of a ledger that the node knows, which it then refuses.
+pub(crate) fn is_known(node: &Node<Trie>, hashed: &mut Hashed, said: &Said) -> bool
+    ensures { result ≡ is_known_by node.now (speech_of (body_said said.now)) }
+{
+    match said {
+        Said::Header(bytes) => {
+            let id = hashed.header_id(bytes);
+            knows(node, &id)
+        }
+        Said::Proposal(_) => false,
+        Said::Validation(_) => false,
+        Said::Tx(_) => false,
+    }
 }

@@ -9,6 +9,7 @@
 mod before;
 mod command;
 mod delivery;
+mod echo;
 mod events;
 mod laws;
 mod narrator;

@@ -55,7 +55,7 @@ pub fn tell_part(
     let first = world_in(running);
     let sent = first.sent().len();
     let mut before = Before::Nobody;
-    note_before(alloc, first, event, &mut speller.room, &mut before)?;
+    note_before(alloc, first, event, speller, &mut before)?;
     let happened = running.event(event)?;
     let reader = running.reader();
     push_outcomes(alloc, text, reader, reader.lines(), happened.as_slice())?;

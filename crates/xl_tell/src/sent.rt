@@ -1,27 +1,31 @@
 // The frames that were sent.
-ghost use Rattle.std.specs.Prelude.{◌≡◌, ◌+◌, ◌++◌, codes, decimal, drop, OnOk};
+ghost use Rattle.std.specs.Prelude.{◌≡◌, ◌+◌, ◌++◌, codes, decimal, drop, List, OnOk};
 ghost use Rattle.std.specs.String.{string_bytes};
 ghost use Rattle.xl_running.specs.Texts.{space};
+ghost use Rattle.xl_sched.specs.declared.named.Named.{Named};
+ghost use Rattle.xl_tell.specs.Echoes.{AreEchoes};
 ghost use Rattle.xl_tell.specs.Parts.{sent_line, sent_lines};
-ghost use Rattle.xl_told.specs.Bodies.{said_text};
+ghost use Rattle.xl_told.specs.Bodies.{body_text, said_text};
 ghost use Rattle.xl_wire.specs.Frames.{decoded_of};
 ghost use Rattle.xl_world.specs.Sending.{body_said, said_to, sent_as};
 
+use crate::echo::Echoes;
 use std::alloc::Global;
 use xl_base::{NodeNo, OutOfMemory};
 use xl_sched::Reader;
-use xl_told::{Hashed, Lead, push_body, push_numbered, push_of, push_said};
+use xl_told::{Hashed, Lead, push_numbered, push_of, push_said};
 use xl_wire::LONGEST_FRAME;
 use xl_world::{Said, Sent, SentFrames};
 
-/// What is kept to spell events and what frames say: a room for a frame, what was hashed last, and the first words of
-/// the last event that was taken apart.
+/// What is kept to spell events and what frames say: a room for a frame, what was hashed last, the first words of the
+/// last event that was taken apart, and what frames said last.
 #[derive(Drop)]
 pub struct Speller {
     // A room of its own would be cleared for each frame.
     pub room: Box<[u8; LONGEST_FRAME]>,
     pub hashed: Hashed,
     pub lead: Lead,
+    pub echoes: Echoes,
 }
 
 impl Speller {
@@ -31,23 +35,39 @@ impl Speller {
             room: Box::new(alloc, [0; LONGEST_FRAME])?,
             hashed: Hashed::none(alloc)?,
             lead: Lead::of(alloc, 0, 0)?,
+            echoes: Echoes::none(alloc),
         })
     }
+}
+
+/// The frame between these two in which this is said has its words.
+fn words_between(from: NodeNo, to: NodeNo, said: &Said)
+    ensures { (names : List Named) → said_text names (decoded_of (said_to from to (body_said said.now)).bytes)
+        ≡ body_text names (body_said said.now) }
+{
+    // What is said is a body, which fits into a frame.
+    let _body = said.body();
 }
 
 /// What a frame says between these two that says this.
 fn push_value(
     text: &mut String,
     reader: &Reader,
-    hashed: &mut Hashed,
+    speller: &mut Speller,
     from: NodeNo,
     to: NodeNo,
     said: &Said,
 ) -> Result<(), OutOfMemory>
-    ensures { OnOk result (string_bytes text.new ≡ string_bytes text.old
+    requires { AreEchoes reader.now.names speller.old.echoes }
+    ensures echoes { OnOk result (AreEchoes reader.now.names speller.new.echoes) }
+    ensures told { OnOk result (string_bytes text.new ≡ string_bytes text.old
         ++ said_text reader.now.names (decoded_of (said_to from to (body_said said.now)).bytes)) }
 {
-    push_body(text, reader, hashed, &said.body())
+    words_between(from, to, said);
+    speller
+        .echoes
+        .push(text, reader, &mut speller.hashed, said)?;
+    Ok(())
 }
 
 /// What a frame says, of which these bytes are kept.
@@ -73,12 +93,15 @@ fn push_bytes(
     speller: &mut Speller,
     frame: &Sent<'_>,
 ) -> Result<(), OutOfMemory>
-    ensures { OnOk result (string_bytes text.new
+    requires { AreEchoes reader.now.names speller.old.echoes }
+    ensures echoes { OnOk result (AreEchoes reader.now.names speller.new.echoes) }
+    ensures told { OnOk result (string_bytes text.new
         ≡ string_bytes text.old ++ said_text reader.now.names (decoded_of frame.now.bytes)) }
 {
     let length = frame.put(&mut speller.room);
     let kept = &speller.room[..length];
-    push_kept(text, reader, &mut speller.hashed, frame, kept)
+    push_kept(text, reader, &mut speller.hashed, frame, kept)?;
+    Ok(())
 }
 
 /// What a frame says.
@@ -88,13 +111,15 @@ fn push_frame_said(
     speller: &mut Speller,
     frame: &Sent<'_>,
 ) -> Result<(), OutOfMemory>
-    ensures { OnOk result (string_bytes text.new
+    requires { AreEchoes reader.now.names speller.old.echoes }
+    ensures echoes { OnOk result (AreEchoes reader.now.names speller.new.echoes) }
+    ensures told { OnOk result (string_bytes text.new
         ≡ string_bytes text.old ++ said_text reader.now.names (decoded_of frame.now.bytes)) }
 {
     match frame.said() {
         Some(said) => {
             let (from, to) = (frame.from(), frame.to());
-            push_value(text, reader, &mut speller.hashed, from, to, said)
+            push_value(text, reader, speller, from, to, said)
         }
         None => push_bytes(text, reader, speller, frame),
     }
@@ -120,7 +145,9 @@ fn push_frame(
     number: usize,
     frame: &Sent<'_>,
 ) -> Result<(), OutOfMemory>
-    ensures { OnOk result (string_bytes text.new
+    requires { AreEchoes reader.now.names speller.old.echoes }
+    ensures echoes { OnOk result (AreEchoes reader.now.names speller.new.echoes) }
+    ensures told { OnOk result (string_bytes text.new
         ≡ string_bytes text.old ++ sent_line reader.now.names number frame.now) }
 {
     push_numbers(text, number, frame)?;
@@ -140,6 +167,7 @@ pub fn push_sent(
     ensures { OnOk result (string_bytes text.new
         ≡ string_bytes text.old ++ sent_lines reader.now.names (before + 1) (drop before sent.now)) }
 {
+    speller.echoes.forget(reader);
     for place in before..sent.len() {
         let Some(frame) = sent.get(place) else {
             unreachable!()

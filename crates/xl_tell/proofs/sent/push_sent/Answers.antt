@@ -18,8 +18,8 @@ loop-place-preserved c =
     let names = c.args.reader.now.names in
     let sent = c.args.sent.now in
     let whole : List ℕ = string_bytes c.args.text.now ++ sent_lines names (c.args.before + 1) (drop c.args.before sent) in
-    frame_told names sent c.loop-place.place c.in-Some.frame (string_bytes c.loop-place.text) (string_bytes c.push_frame.new.text) whole (sym c.in-Some.ensures) c.loop-place.invariant c.in_ok-push_frame.ensures
+    (frame_told names sent c.loop-place.place c.in-Some.frame (string_bytes c.loop-place.text) (string_bytes c.push_frame.new.text) whole (sym c.in-Some.ensures) c.loop-place.invariant.0 c.in_ok-push_frame.ensures.told, c.in_ok-push_frame.ensures.echoes)
 
 pub returns : goal.returns
 returns c =
-    sym (none_told c.args.reader.now.names c.args.sent.now c.loop-place.place (string_bytes c.loop-place.text) (omega (arith, c.loop-place-test.false, c.len-place-end.ensures))) ∙ c.loop-place.invariant
+    sym (none_told c.args.reader.now.names c.args.sent.now c.loop-place.place (string_bytes c.loop-place.text) (omega (arith, c.loop-place-test.false, c.len-place-end.ensures))) ∙ c.loop-place.invariant.0
