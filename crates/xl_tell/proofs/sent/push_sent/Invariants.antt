@@ -1,4 +1,4 @@
-use Rattle.std.proofs.Common.{◌≡◌, ◌+◌, ◌++◌, ◌×◌, drop}
+use Rattle.std.proofs.Common.{◌≡◌, ◌+◌, ◌++◌, drop}
 use Rattle.std.specs.String.{string_bytes}
 use Rattle.xl_tell.specs.Echoes.{AreEchoes}
 use Rattle.xl_tell.specs.Parts.{sent_lines}
