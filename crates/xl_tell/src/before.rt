@@ -1,5 +1,5 @@
 // What is noted of the node at which a part of an event happens.
-ghost use Rattle.std.specs.Prelude.{◌≡◌, ◌≤◌, ◌/◌, ℕ, Bool, max, option_map, true, IfOk, IfSome, IsTrue, OnOk, Some};
+ghost use Rattle.std.specs.Prelude.{◌≡◌, ◌≤◌, ◌/◌, ℕ, Bool, max, true, IfOk, IsTrue, OnOk, Some};
 ghost use Rattle.xl_base.specs.declared.ids.LedgerId.{LedgerId};
 ghost use Rattle.xl_core.specs.Hearing.{speech_of};
 ghost use Rattle.xl_core.specs.Node.{Issue, Timer};
@@ -8,8 +8,7 @@ ghost use Rattle.xl_noted.specs.Asking.{is_open as is_open_by};
 ghost use Rattle.xl_rounds.specs.Positions.{count};
 ghost use Rattle.xl_tell.specs.Before.{Delivers, IsBrief, Says, SaysSet, Tells, TellsOf, asked_of, frame_noted, heard_noted, number_of};
 ghost use Rattle.xl_tell.specs.Nodes.{node_of};
-ghost use Rattle.xl_world.specs.Sending.{body_said, said_to, sent_as};
-ghost use Rattle.xl_world.specs.World.{core_in};
+ghost use Rattle.xl_world.specs.Sending.{body_said};
 
 use crate::delivery::{frame_of, is_known, is_set, saying};
 use crate::nodes::{node_asked, node_of as node_number};
@@ -17,9 +16,8 @@ use crate::sent::Speller;
 use std::alloc::Global;
 use xl_base::{Millis, NodeNo, OutOfMemory};
 use xl_core::Node;
-use xl_noted::{
-    Noted, NotedBeat, NotedIssue, NotedLedgers, NotedPending, NotedPosition, NotedVote, is_open,
-};
+use xl_noted::is_open;
+use xl_noted::{Noted, NotedBeat, NotedIssue, NotedLedgers, NotedPending, NotedPosition, NotedVote};
 use xl_sched::{Ask, Event, What};
 use xl_told::Hashed;
 use xl_trie::Trie;
@@ -28,10 +26,8 @@ use xl_world::{Said, Sent, World};
 /// What is noted before a part of an event.
 #[derive(Drop)]
 pub enum Before {
-    /// It happens at no node.
     Nobody,
-    /// All that the node of this number holds.
-    // Of a size of its own, since all are as large as the largest.
+    /// All that the node of this number holds, in a box, since all are as large as the largest.
     Whole {
         number: NodeNo,
         noted: Box<Noted>,
