@@ -16,8 +16,9 @@ use crate::sent::Speller;
 use std::alloc::Global;
 use xl_base::{Millis, NodeNo, OutOfMemory};
 use xl_core::Node;
-use xl_noted::is_open;
-use xl_noted::{Noted, NotedBeat, NotedIssue, NotedLedgers, NotedPending, NotedPosition, NotedVote};
+use xl_noted::{
+    Noted, NotedBeat, NotedIssue, NotedLedgers, NotedPending, NotedPosition, NotedVote, is_open,
+};
 use xl_sched::{Ask, Event, What};
 use xl_told::Hashed;
 use xl_trie::Trie;
@@ -382,8 +383,7 @@ fn note_else(
     }
 }
 
-/// What is noted before a part of an event. Refused only when memory runs out. The speller's room is written over.
-// What is noted is large, and an answer would be copied on its way.
+/// Notes in place, as it is large, what a part of an event may change. The speller's room is written over.
 pub fn note_before(
     alloc: Global,
     world: &World,
