@@ -176,7 +176,7 @@ returns-in-Err-Refused-clause-text g c =
 
 pub returns-in-Err-Refused-clause-cause : goal.returns-in-Err-Refused-clause-cause
 returns-in-Err-Refused-clause-cause g c =
-    subst (λ (x : Status). HasCause x _ _ _ _) (sym c.unopened-in-Err-Refused.ensures.status) tt
+    subst (λ (x : Status). HasCause x (Rose (g.I.Source.faults c.args.input.now) (g.I.Source.faults c.args.input.now)) (Rose (g.O.Sink.faults c.args.output.now) (g.O.Sink.faults c.args.output.now) ⊎ HasFailed c.unopened-in-Err-Refused.result.recorder) (Rose (g.K.Keeper.faults c.args.keeper) (g.K.Keeper.faults c.unopened-in-Err-Refused.result.keeper)) (Rose (g.H.Hub.faults c.args.hub.now) (g.H.Hub.faults c.args.hub.now))) (sym c.unopened-in-Err-Refused.ensures.status) tt
 
 pub returns-in-Err-Memory-clause-words : goal.returns-in-Err-Memory-clause-words
 returns-in-Err-Memory-clause-words g c =
@@ -188,7 +188,7 @@ returns-in-Err-Memory-clause-text g c =
 
 pub returns-in-Err-Memory-clause-cause : goal.returns-in-Err-Memory-clause-cause
 returns-in-Err-Memory-clause-cause g c =
-    subst (λ (x : Status). HasCause x _ _ _ _) (sym c.unopened-in-Err-Memory.ensures.status) tt
+    subst (λ (x : Status). HasCause x (Rose (g.I.Source.faults c.args.input.now) (g.I.Source.faults c.args.input.now)) (Rose (g.O.Sink.faults c.args.output.now) (g.O.Sink.faults c.args.output.now) ⊎ HasFailed c.unopened-in-Err-Memory.result.recorder) (Rose (g.K.Keeper.faults c.args.keeper) (g.K.Keeper.faults c.unopened-in-Err-Memory.result.keeper)) (Rose (g.H.Hub.faults c.args.hub.now) (g.H.Hub.faults c.args.hub.now))) (sym c.unopened-in-Err-Memory.ensures.status) tt
 
 pub returns-in-Ok-Tell-clause-unread : goal.returns-in-Ok-Tell-clause-unread
 returns-in-Ok-Tell-clause-unread g c =
