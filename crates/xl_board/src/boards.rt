@@ -18,6 +18,7 @@ pub enum NotOpened {
 /// What opens boards by their paths, and files for journals.
 pub trait Boards {
     type D: Board + Send + Drop;
+
     type J: Sink + Send + Drop;
 
     /// What stands on the board of a path when that is opened, if it is known.

@@ -138,6 +138,7 @@ impl MemBoards {
 
 impl Boards for MemBoards {
     type D = MemBoard;
+
     type J = MemSink;
 
     ghost stands = { λ boards path. Some None };
@@ -153,11 +154,7 @@ impl Boards for MemBoards {
 
     fn open_journal(&mut self, _path: &str, _now: Millis) -> Result<MemSink, NotOpened> {
         if self.opens {
-            return Ok(MemSink::new(
-                self.alloc,
-                usize::MAX,
-                Vec::new(self.alloc),
-            ));
+            return Ok(MemSink::new(self.alloc, usize::MAX, Vec::new(self.alloc)));
         }
         Err(self.fail())
     }
