@@ -1,5 +1,5 @@
 // What is written comes, and what can't be used is refused.
-use crate::peers::{
+use crate::loopback::peers::{
     FRAME, Peers, assert_each, byte_at, clock_of, dialler, front, gives, link_of, listener, opens,
     takes, takes_front,
 };

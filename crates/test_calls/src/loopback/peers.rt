@@ -6,23 +6,23 @@ use xl_io::Wrote;
 use xl_links::{Clock, Hub, Judgement, Link, LinkRead, Opening, Way};
 use xl_tcp::{SystemClock, TcpHub, TcpLink};
 
-pub type Loopback = TcpLink<HostRuntime>;
+pub type LoopbackLink = TcpLink<HostRuntime>;
 
 /// A link of member 2 over loopback, or none if the address is refused.
-pub fn link_of(rt: &HostRuntime, way: Way) -> Result<Option<Loopback>, Fail> {
+pub fn link_of(rt: &HostRuntime, way: Way) -> Result<Option<LoopbackLink>, Fail> {
     let mut hub = TcpHub::new(rt.alloc(), rt.clone()?);
     let member = NodeNo::new(2).ok_or("no member")?;
     Ok(hub.open_link(member, way).ok())
 }
 
 /// A link that listens on loopback.
-pub fn listener(rt: &HostRuntime) -> Result<Loopback, Fail> {
+pub fn listener(rt: &HostRuntime) -> Result<LoopbackLink, Fail> {
     let way = Way::Listen("127.0.0.1:0".to_string(rt.alloc())?);
     Ok(link_of(rt, way)?.ok_or("no link on loopback")?)
 }
 
 /// A link that dials where this one listens.
-pub fn dialler(rt: &HostRuntime, listening: &Loopback) -> Result<Loopback, Fail> {
+pub fn dialler(rt: &HostRuntime, listening: &LoopbackLink) -> Result<LoopbackLink, Fail> {
     let address = listening.listens_at().ok_or("no address")?;
     let way = Way::Dial(address.to_string(rt.alloc())?);
     Ok(link_of(rt, way)?.ok_or("no link on loopback")?)
@@ -31,10 +31,10 @@ pub fn dialler(rt: &HostRuntime, listening: &Loopback) -> Result<Loopback, Fail>
 /// A link that listens on loopback, and three that dial it.
 #[derive(Drop)]
 pub struct Peers {
-    pub listening: Loopback,
-    pub first: Loopback,
-    pub second: Loopback,
-    pub third: Loopback,
+    pub listening: LoopbackLink,
+    pub first: LoopbackLink,
+    pub second: LoopbackLink,
+    pub third: LoopbackLink,
 }
 
 impl Peers {

@@ -1,6 +1,6 @@
 // Callers of whom nothing is known, and how they are held to what they show.
-use crate::peers::{
-    FRAME, Loopback, Peers, assert_each, begun, clock_of, dialler, ends, front, gives,
+use crate::loopback::peers::{
+    FRAME, LoopbackLink, Peers, assert_each, begun, clock_of, dialler, ends, front, gives,
     gives_frames, opens, reads, takes_frames, takes_front,
 };
 use std::test::Fail;
@@ -11,7 +11,7 @@ use xl_links::{Clock, Judgement, Link, LinkRead, Opening};
 fn comes_and_goes<C: Clock>(
     rt: &HostRuntime,
     clock: &C,
-    listening: &Loopback,
+    listening: &LoopbackLink,
 ) -> Result<bool, Fail> {
     let mut gone = dialler(rt, listening)?;
     Ok(opens(clock, &mut gone))
@@ -114,9 +114,9 @@ fn who_says_nothing_makes_room_for_who_says_nothing_too(rt: HostRuntime) -> Resu
 fn crowd<C: Clock>(
     rt: &HostRuntime,
     clock: &C,
-    listening: &Loopback,
+    listening: &LoopbackLink,
     bytes: &[u8],
-) -> Result<Vec<Loopback>, Fail> {
+) -> Result<Vec<LoopbackLink>, Fail> {
     let mut strangers = Vec::new(rt.alloc());
     for _ in 0..12 {
         let mut stranger = dialler(rt, listening)?;

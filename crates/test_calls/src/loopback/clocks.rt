@@ -1,5 +1,5 @@
 // The system's clock.
-use crate::peers::{assert_each, clock_of};
+use crate::loopback::peers::{assert_each, clock_of};
 use std::io;
 use std::sync::atomic::{AtomicU64, Ordering};
 use std::test::Fail;
