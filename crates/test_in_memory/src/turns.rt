@@ -11,7 +11,7 @@ use xl_base::NodeNo;
 use xl_core::{Core, CoreEvent, Settings};
 use xl_io::PlainKeeper;
 use xl_lists::List;
-use xl_store::{Entry, Pass, Store};
+use xl_store::{Entry, Pass, Retention, Store};
 use xl_tags::Keys;
 use xl_trie::Trie;
 
@@ -151,7 +151,7 @@ fn unkept(alloc: Global) -> Option<(Stored, Pass)>
     ensures pass { IfSome result (λ opened. IsOf opened.0 opened.1) }
 {
     let keeper = PlainKeeper::new(alloc, 4).ok()?;
-    match Store::open_unkept(alloc, core_of(alloc)?, keeper, TURNS) {
+    match Store::open_with(alloc, core_of(alloc)?, keeper, TURNS, Retention::Nothing) {
         Ok(opened) => Some(opened),
         Err(_) => None,
     }

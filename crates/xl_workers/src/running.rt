@@ -2,14 +2,11 @@ ghost use Rattle.std.specs.Prelude.{◌≡◌, ◌<◌, ◌≤◌, ◌^◌, ℕ,
 ghost use Rattle.std.specs.List.{AllByRecursion, IsDistinct};
 ghost use Rattle.xl_tags.specs.Rings.{key_of};
 ghost use Rattle.xl_turns.specs.Histories.{Runs};
-ghost use Rattle.xl_turns.specs.Knowing.{newcomer};
-ghost use Rattle.xl_turns.specs.Passes.{known};
 ghost use Rattle.xl_core.specs.CoreLives.{core_after};
 ghost use Rattle.xl_store.specs.Entries.{Leads, life_of};
 ghost use Rattle.xl_store.specs.Closing.{KeepsAll};
 ghost use Rattle.xl_store.specs.Recording.{RecordsIf, all_batches};
 ghost use Rattle.xl_store.specs.Retentions.{left_of};
-ghost use Rattle.xl_store.specs.Stores.{start_of, keeper_of, turns_of, retention_of, IsOf};
 ghost use Rattle.xl_heartbeat.specs.Bulletins.{ToldIf};
 ghost use Rattle.xl_heartbeat.specs.Outputs.{output};
 ghost use Rattle.xl_workers.specs.Linking.{contact_of, hub_seen, target_of};
@@ -19,7 +16,6 @@ ghost use Rattle.xl_workers.specs.Runs.{doing_of, NodeRun};
 use crate::ends::RunEnd;
 use crate::living::live;
 use crate::plan::Plan;
-use std::alloc::Global;
 use std::fs::Files;
 use std::sync::Wait;
 use std::thread::Threads;
@@ -30,7 +26,7 @@ use xl_io::{Keeper, Sink};
 use xl_ledger::Branch;
 use xl_links::{Clock, Gate, Hub};
 use xl_peers::Host;
-use xl_store::{Closed, Pass, Recorder, Retention, Spared, Store};
+use xl_store::{Closed, Recorder, Spared, Store};
 
 /// What a run leaves.
 #[derive(Drop)]
@@ -97,33 +93,12 @@ pub fn node<
     ensures spared { IfErr result (λ spared. (spared.core ≡ core) × (spared.keeper ≡ keeper)) }
     ensures nothing { OnErr result ((hub.new ≡ hub.old) × (sink.new ≡ sink.old)) }
 {
-    let (store, pass) = match store_of(host.alloc, core, keeper, plan.turns, plan.retention) {
+    let opened = Store::open_with(host.alloc, core, keeper, plan.turns, plan.retention);
+    let (store, pass) = match opened {
         Ok(opened) => opened,
         Err(spared) => return Err(spared),
     };
     let (end, pass) = live(host, &store, pass, plan, hub, sink, outlets);
     let closed = store.close(pass);
     Ok(Ran { end, closed })
-}
-
-/// The store of a run, which keeps such entries.
-fn store_of<B: Branch + Drop, K: Keeper + Drop>(
-    alloc: Global,
-    core: Core<B>,
-    keeper: K,
-    turns: u64,
-    retention: Retention,
-) -> Result<(Store<B, K>, Pass), Spared<B, K>>
-    requires turns { (0 < turns) × (turns ≤ 2 ^ 62) }
-    ensures start { IfOk result (λ opened. (start_of opened.0 ≡ core) × (keeper_of opened.0 ≡ keeper)) }
-    ensures limit { IfOk result (λ opened. turns_of opened.0 ≡ turns) }
-    ensures keeps { IfOk result (λ opened. retention_of opened.0 ≡ retention) }
-    ensures pass { IfOk result (λ opened. IsOf opened.0 opened.1 × (known opened.1 ≡ newcomer)) }
-    ensures spared { IfErr result (λ spared. (spared.core ≡ core) × (spared.keeper ≡ keeper)) }
-{
-    match retention {
-        Retention::Nothing => Store::open_unkept(alloc, core, keeper, turns),
-        Retention::Whole => Store::open(alloc, core, keeper, turns),
-        Retention::Passing => Store::open_passing(alloc, core, keeper, turns),
-    }
 }

@@ -37,45 +37,11 @@ impl<B: Branch + Drop, K: Keeper + Drop> Store<B, K> {
         ensures pass { IfOk result (λ opened. IsOf opened.0 opened.1 × (known opened.1 ≡ newcomer)) }
         ensures spared { IfErr result (λ spared. (spared.core ≡ core) × (spared.keeper ≡ keeper)) }
     {
-        Store::over(alloc, core, keeper, limit, Retention::Whole)
+        Store::open_with(alloc, core, keeper, limit, Retention::Whole)
     }
 
-    /// The same, but it keeps no entry: its memory doesn't grow by its turns.
-    pub fn open_unkept(
-        alloc: Global,
-        core: Core<B>,
-        keeper: K,
-        limit: u64,
-    ) -> Result<(Store<B, K>, Pass), Spared<B, K>>
-        requires limit { (0 < limit) × (limit ≤ 2 ^ 62) }
-        ensures start { IfOk result (λ opened. (start_of opened.0 ≡ core) × (keeper_of opened.0 ≡ keeper)) }
-        ensures limit { IfOk result (λ opened. turns_of opened.0 ≡ limit) }
-        ensures keeps { IfOk result (λ opened. retention_of opened.0 ≡ retention.Nothing) }
-        ensures pass { IfOk result (λ opened. IsOf opened.0 opened.1 × (known opened.1 ≡ newcomer)) }
-        ensures spared { IfErr result (λ spared. (spared.core ≡ core) × (spared.keeper ≡ keeper)) }
-    {
-        Store::over(alloc, core, keeper, limit, Retention::Nothing)
-    }
-
-    /// The same, but it keeps entries only until reports are taken, and hands them on then.
-    pub fn open_passing(
-        alloc: Global,
-        core: Core<B>,
-        keeper: K,
-        limit: u64,
-    ) -> Result<(Store<B, K>, Pass), Spared<B, K>>
-        requires limit { (0 < limit) × (limit ≤ 2 ^ 62) }
-        ensures start { IfOk result (λ opened. (start_of opened.0 ≡ core) × (keeper_of opened.0 ≡ keeper)) }
-        ensures limit { IfOk result (λ opened. turns_of opened.0 ≡ limit) }
-        ensures keeps { IfOk result (λ opened. retention_of opened.0 ≡ retention.Passing) }
-        ensures pass { IfOk result (λ opened. IsOf opened.0 opened.1 × (known opened.1 ≡ newcomer)) }
-        ensures spared { IfErr result (λ spared. (spared.core ≡ core) × (spared.keeper ≡ keeper)) }
-    {
-        Store::over(alloc, core, keeper, limit, Retention::Passing)
-    }
-
-    /// A store that keeps such entries.
-    fn over(
+    /// The same, but of its entries it keeps what `retention` says.
+    pub fn open_with(
         alloc: Global,
         core: Core<B>,
         keeper: K,
