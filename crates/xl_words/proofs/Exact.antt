@@ -1,5 +1,5 @@
 -- What `clap` finds in the words that are exactly those of a command.
-use Rattle.std.proofs.Common.{zero, suc, ◌+◌, ◌-◌, subst, true, false, Result, Ok, Err, IfOk, ◌⊎◌, ◌<◌, inl, inr, ◌==◌, ◌≡◌, ◌∙◌, ℕ, List, [], ◌∷◌, Option, Some, None, refl, sym, ap, codes, arith}
+use Rattle.std.proofs.Common.{zero, suc, ◌+◌, ◌-◌, subst, true, false, Result, Ok, Err, IfOk, ◌⊎◌, ◌<◌, inl, inr, ◌==◌, ◌≡◌, ◌∙◌, ℕ, List, [], ◌∷◌, drop, Option, Some, None, refl, sym, ap, codes, arith}
 use Rattle.std.specs.Result.{result_ok}
 use Rattle.std.specs.Option.{ok_or}
 use Rattle.clap.proofs.OnLiterals.{clap_on_literals}
@@ -121,38 +121,29 @@ gen_text : (name t : Text) (n : ℕ) → IsRounds t n → command_of (name ∷ c
 gen_text name [] n h = let bad = h.digits.0 in absurd (omega (arith, bad))
 gen_text name (d ∷ ds) n h = gen_is name d ds n h
 
+-- the program's name and these words are what they ask
+with_name : (words : List Text) (t : Text) (ts : List Text) (c : Command) → drop 1 words ≡ t ∷ ts
+    → ((name : Text) → command_of (name ∷ t ∷ ts) ≡ Some c) → command_of words ≡ Some c
+with_name [] t ts c e is = absurd cc
+with_name (name ∷ rest) t ts c e is = rw e (is name)
+
 -- exact words are what they say
 pub exactly : (words : List Text) (c : Command) → IsExactly words c → command_of words ≡ Some c
-exactly [] (Tell Replay) w = absurd cc
-exactly [] Node w = absurd cc
-exactly [] (Tell Show) w = absurd cc
-exactly [] (Tell Lists) w = absurd cc
-exactly [] (Tell Merge) w = absurd cc
-exactly [] (Tell Audit) w = absurd cc
-exactly [] (Tell Blame) w = absurd cc
-exactly [] (Tell Flags) w = absurd cc
-exactly [] (Tell Negative) w = absurd cc
-exactly [] (Tell Events) w = absurd cc
-exactly [] (Tell (Gen n)) w = let bad = w.1 in absurd cc
-exactly [] (Tell Help) (inl w) = absurd cc
-exactly [] (Tell Help) (inr w) = absurd cc
-exactly [] (Tell Version) (inl w) = absurd cc
-exactly [] (Tell Version) (inr w) = absurd cc
-exactly (name ∷ rest) (Tell Replay) w = rw w (replay_is name)
-exactly (name ∷ rest) Node w = rw w (node_is name)
-exactly (name ∷ rest) (Tell Show) w = rw w (show_is name)
-exactly (name ∷ rest) (Tell Lists) w = rw w (lists_is name)
-exactly (name ∷ rest) (Tell Merge) w = rw w (merge_is name)
-exactly (name ∷ rest) (Tell Audit) w = rw w (audit_is name)
-exactly (name ∷ rest) (Tell Blame) w = rw w (blame_is name)
-exactly (name ∷ rest) (Tell Flags) w = rw w (flags_is name)
-exactly (name ∷ rest) (Tell Negative) w = rw w (negative_is name)
-exactly (name ∷ rest) (Tell Events) w = rw w (tell_is name)
-exactly (name ∷ rest) (Tell (Gen n)) w = rw w.1 (gen_text name w.0 n w.2)
-exactly (name ∷ rest) (Tell Help) (inl w) = rw w (help_is name)
-exactly (name ∷ rest) (Tell Help) (inr w) = rw w (short_help_is name)
-exactly (name ∷ rest) (Tell Version) (inl w) = rw w (version_is name)
-exactly (name ∷ rest) (Tell Version) (inr w) = rw w (short_version_is name)
+exactly words (Tell Replay) w = with_name words _ _ _ w replay_is
+exactly words Node w = with_name words _ _ _ w node_is
+exactly words (Tell Show) w = with_name words _ _ _ w show_is
+exactly words (Tell Lists) w = with_name words _ _ _ w lists_is
+exactly words (Tell Merge) w = with_name words _ _ _ w merge_is
+exactly words (Tell Audit) w = with_name words _ _ _ w audit_is
+exactly words (Tell Blame) w = with_name words _ _ _ w blame_is
+exactly words (Tell Flags) w = with_name words _ _ _ w flags_is
+exactly words (Tell Negative) w = with_name words _ _ _ w negative_is
+exactly words (Tell Events) w = with_name words _ _ _ w tell_is
+exactly words (Tell (Gen n)) w = with_name words _ _ _ w.1 (λ name. gen_text name w.0 n w.2)
+exactly words (Tell Help) (inl w) = with_name words _ _ _ w help_is
+exactly words (Tell Help) (inr w) = with_name words _ _ _ w short_help_is
+exactly words (Tell Version) (inl w) = with_name words _ _ _ w version_is
+exactly words (Tell Version) (inr w) = with_name words _ _ _ w short_version_is
 
 ok_of : (r : Result Command WordsFault) (c : Command) → result_ok r ≡ Some c → r ≡ Ok c
 ok_of (Ok d) c e = ap Ok (same_Some _ _ e)

@@ -1,5 +1,5 @@
 -- none of these commands has an argument that is global, so that each is added with its own rule alone
-use Rattle.std.proofs.Common.{◌≡◌, ◌∙◌, ap, ap₂}
+use Rattle.std.proofs.Common.{◌∙◌, ap, ap₂}
 use Rattle.std.proofs.lemmas.Result.{IfOk-weaker}
 use Rattle.clap.specs.Words.{App, with_subcommand}
 use Rattle.xl_words.proofs.program.plain_commands.Goals as goal
