@@ -1,10 +1,10 @@
 -- What a status says of the run that it stands for.
-use Rattle.std.proofs.Common.{◌≡◌, ◌≢◌, ◌<◌, ◌++◌, length, length-append, arith, ℕ, List, [], Option, Some, None, Result, Ok, Err, IfSome, ◌⊎◌, inl, inr, refl, sym, ap, subst, ◌∙◌}
+use Rattle.std.proofs.Common.{◌≡◌, ◌≢◌, ◌<◌, ◌++◌, length, length-append, arith, ℕ, Bool, true, false, List, [], Option, Some, None, Result, Ok, Err, IfSome, ◌⊎◌, inl, inr, refl, sym, ap, subst, ◌∙◌}
 use Rattle.std.specs.Prelude.{IfOk, IfErr, IsErrOf}
 use Rattle.std.specs.Io.KnownBytes.{append_known}
 use Rattle.xl_base.specs.Faults.{Rose}
 use Rattle.xl_base.specs.declared.status.Status.{Status}
-use Rattle.xl_base.specs.declared.status.Status.TheVariants.{Done, Fork, WordsRefused, InputRefused, ReadFault, WriteFault, OutOfMemory, KeepFault, NetFault, StoreFull}
+use Rattle.xl_base.specs.declared.status.Status.TheVariants.{Done, Fork, InputRefused, ReadFault, WriteFault, OutOfMemory, KeepFault, NetFault}
 use Rattle.xl_io.specs.Sinks.{GrewByFront, GrewByLess}
 use Rattle.xl_lines.specs.declared.fault.Fault.{Fault}
 use Rattle.xl_lines.specs.declared.fault.Fault.TheVariants.{Read, Write, Memory}
@@ -31,63 +31,34 @@ pub if_any : {X : Type 0} (o : Option X) (P : X → Type 0) → ((x : X) → P x
 if_any None P all = tt
 if_any (Some x) P all = all x
 
-module _ (left held held' : Option (List ℕ)) (told : List ℕ → Told) where
-  -- the whole text is written, and the verdict is its own
-  abbrev Whole : Result Verdict Fault → Type 0
-  Whole r = IfOk r (λ verdict. IfSome left (λ bytes. TellsAll held held' verdict (told bytes)))
+-- how a command ended that a status stands for
+end_of : Status → Result Verdict Fault
+end_of Done = Ok Good
+end_of Fork = Ok Found
+end_of InputRefused = Ok Refused
+end_of ReadFault = Err Read
+end_of WriteFault = Err Write
+end_of other = Err Memory
 
-  done_after : (r : Result Verdict Fault) → Whole r → status_after r ≡ Done → IfSome left (λ bytes. TellsAll held held' Good (told bytes))
-  done_after (Ok Good) whole is = whole
-  done_after (Ok Found) whole is = cc
-  done_after (Ok Refused) whole is = cc
-  done_after (Err Read) whole is = cc
-  done_after (Err Write) whole is = cc
-  done_after (Err Memory) whole is = cc
+end_of_status : (r : Result Verdict Fault) → end_of (status_after r) ≡ r
+end_of_status (Ok Good) = refl
+end_of_status (Ok Found) = refl
+end_of_status (Ok Refused) = refl
+end_of_status (Err Read) = refl
+end_of_status (Err Write) = refl
+end_of_status (Err Memory) = refl
 
-  fork_after : (r : Result Verdict Fault) → Whole r → status_after r ≡ Fork → IfSome left (λ bytes. TellsAll held held' Found (told bytes))
-  fork_after (Ok Good) whole is = cc
-  fork_after (Ok Found) whole is = whole
-  fork_after (Ok Refused) whole is = cc
-  fork_after (Err Read) whole is = cc
-  fork_after (Err Write) whole is = cc
-  fork_after (Err Memory) whole is = cc
+-- so with one status two commands ended alike
+same_end : (r r' : Result Verdict Fault) → status_after r ≡ status_after r' → r ≡ r'
+same_end r r' is = sym (end_of_status r) ∙ (ap end_of is ∙ end_of_status r')
 
-  refused_after : (r : Result Verdict Fault) → Whole r → status_after r ≡ InputRefused → IfSome left (λ bytes. TellsAll held held' Refused (told bytes))
-  refused_after (Ok Good) whole is = cc
-  refused_after (Ok Found) whole is = cc
-  refused_after (Ok Refused) whole is = whole
-  refused_after (Err Read) whole is = cc
-  refused_after (Err Write) whole is = cc
-  refused_after (Err Memory) whole is = cc
+-- what a verdict promises holds with its status
+said_by : (r : Result Verdict Fault) (P : Verdict → Type 0) (v : Verdict) → IfOk r P → status_after r ≡ status_after (Ok v) → P v
+said_by r P v all is = subst (λ (it : Result Verdict Fault). IfOk it P) (same_end r (Ok v) is) all
 
 end_after : (r : Result Verdict Fault) (E : Type 0) → IfOk r (λ verdict. verdict ≢ Refused → E) → (status_after r ≡ Done) ⊎ (status_after r ≡ Fork) → E
-end_after (Ok Good) E end is = end (λ no. cc)
-end_after (Ok Found) E end is = end (λ no. cc)
-end_after (Ok Refused) E end (inl is) = absurd cc
-end_after (Ok Refused) E end (inr is) = absurd cc
-end_after (Err Read) E end (inl is) = absurd cc
-end_after (Err Read) E end (inr is) = absurd cc
-end_after (Err Write) E end (inl is) = absurd cc
-end_after (Err Write) E end (inr is) = absurd cc
-end_after (Err Memory) E end (inl is) = absurd cc
-end_after (Err Memory) E end (inr is) = absurd cc
-
--- a yes was told of the whole input
-yes_after : (r : Result Verdict Fault) (E : Type 0) → IfOk r (λ verdict. verdict ≡ Good → E) → status_after r ≡ Done → E
-yes_after (Ok Good) E end is = end refl
-yes_after (Ok Found) E end is = absurd cc
-yes_after (Ok Refused) E end is = absurd cc
-yes_after (Err Read) E end is = absurd cc
-yes_after (Err Write) E end is = absurd cc
-yes_after (Err Memory) E end is = absurd cc
-
-read_after : (r : Result Verdict Fault) (P : Type 0) → (IsErrOf r Read → P) → status_after r ≡ ReadFault → P
-read_after (Ok Good) P cause is = absurd cc
-read_after (Ok Found) P cause is = absurd cc
-read_after (Ok Refused) P cause is = absurd cc
-read_after (Err Read) P cause is = cause refl
-read_after (Err Write) P cause is = absurd cc
-read_after (Err Memory) P cause is = absurd cc
+end_after r E end (inl is) = said_by r (λ verdict. verdict ≢ Refused → E) Good end is (λ no. cc)
+end_after r E end (inr is) = said_by r (λ verdict. verdict ≢ Refused → E) Found end is (λ no. cc)
 
 complete_after : (r : Result Verdict Fault) (A B : Type 0) → IfErr r (λ fault. (A → ⊥) → (B → ⊥) → fault ≡ Memory) → (A → ⊥) → (B → ⊥) → IsTold (status_after r) ⊎ (status_after r ≡ OutOfMemory)
 complete_after (Ok Good) A B only a b = inl tt
@@ -125,23 +96,10 @@ says Good = refl
 says Found = refl
 says Refused = refl
 
--- unless the status names the fault, none was answered
-read_exact_after : (r : Result Verdict Fault) (P : Type 0) → (¬ (IsErrOf r Read) → P) → status_after r ≢ ReadFault → P
-read_exact_after (Ok v) P exact other = exact (λ is. cc)
-read_exact_after (Err Read) P exact other = absurd (other refl)
-read_exact_after (Err Write) P exact other = exact (λ is. cc)
-read_exact_after (Err Memory) P exact other = exact (λ is. cc)
-
-write_exact_after : (r : Result Verdict Fault) (P : Type 0) → (¬ (IsErrOf r Write) → P) → status_after r ≢ WriteFault → P
-write_exact_after (Ok v) P exact other = exact (λ is. cc)
-write_exact_after (Err Read) P exact other = exact (λ is. cc)
-write_exact_after (Err Write) P exact other = absurd (other refl)
-write_exact_after (Err Memory) P exact other = exact (λ is. cc)
-
 -- a verdict that shows the end was answered behind it
 at_end_after : (reads : Reads) (r : Result Verdict Fault) (E : Type 0) → IfOk r (λ verdict. ShowsEnd reads verdict → E) → (status_after r ≡ Done) ⊎ (status_after r ≡ Fork) → ReadsTo reads (status_after r) → E
 at_end_after on r E end ends reads = end_after r E end ends
-at_end_after to_what_is_found r E end ends reads = yes_after r E end reads
+at_end_after to_what_is_found r E end ends reads = said_by r (λ verdict. verdict ≡ Good → E) Good end reads refl
 at_end_after nothing r E end ends reads = absurd reads
 
 -- a text that shows its end isn't written whole behind a failed read
@@ -169,23 +127,25 @@ report_written (Some bytes) before after grew = as_written bytes before after gr
 
 -- a command that keeps its promise writes its text
 pub writes_kept : (telling : Telling) (old new : Streams) (r : Result Verdict Fault) → Keeps (promise_by telling) old new r → WritesText telling old new (status_after r)
-writes_kept telling old new r keeps = record {
-  done = done_after old.left old.held new.held (promise_by telling).told r keeps.whole;
-  fork = fork_after old.left old.held new.held (promise_by telling).told r keeps.whole;
-  refused = refused_after old.left old.held new.held (promise_by telling).told r keeps.whole;
-  as_written = λ is.
-      report_written old.left old.held new.held
-      (subst (λ (t : Telling). IfSome old.left (λ bytes. GrewByFront old.held new.held ((promise_by t).told bytes).text)) is keeps.front);
-  at_end = at_end_after (promise_by telling).reads r _ keeps.to_end;
-  front = keeps.front;
-  soon = λ is. read_after r _ keeps.soon is;
-  unended = λ is. read_after r _ keeps.unended is;
-  further = keeps.further;
-  read_exact = read_exact_after r _ keeps.read_exact;
-  write_exact = write_exact_after r _ keeps.write_exact;
-  complete = complete_after r _ _ keeps.complete;
-  whole = shown_end (promise_by telling).shows (promise_by telling).told old.left old.held new.held old.reads new.reads r keeps.whole keeps.less keeps.read;
-}
+writes_kept telling old new r keeps =
+    let says : Verdict → Type 0 = λ verdict. IfSome old.left (λ bytes. TellsAll old.held new.held verdict ((promise_by telling).told bytes)) in
+    record {
+      done = said_by r says Good keeps.whole;
+      fork = said_by r says Found keeps.whole;
+      refused = said_by r says Refused keeps.whole;
+      as_written = λ is.
+          report_written old.left old.held new.held
+          (subst (λ (t : Telling). IfSome old.left (λ bytes. GrewByFront old.held new.held ((promise_by t).told bytes).text)) is keeps.front);
+      at_end = at_end_after (promise_by telling).reads r _ keeps.to_end;
+      front = keeps.front;
+      soon = λ is. keeps.soon (same_end r (Err Read) is);
+      unended = λ is. keeps.unended (same_end r (Err Read) is);
+      further = keeps.further;
+      read_exact = λ other. keeps.read_exact (λ is. other (ap status_after is));
+      write_exact = λ other. keeps.write_exact (λ is. other (ap status_after is));
+      complete = complete_after r _ _ keeps.complete;
+      whole = shown_end (promise_by telling).shows (promise_by telling).told old.left old.held new.held old.reads new.reads r keeps.whole keeps.less keeps.read;
+    }
 
 -- a command that reads its input
 pub reads_on : on ≡ nothing → ⊥
@@ -196,53 +156,40 @@ reads_some is = cc
 
 -- a status that names a fault has its cause
 pub cause_after : (s : Status) (r : Result Verdict Fault) (A B : Type 0) → s ≡ status_after r → (IsErrOf r Read → A) → (IsErrOf r Write → B) → HasCause s A B ⊥ ⊥
-cause_after s r A B is read write = subst (λ (x : Status). HasCause x A B ⊥ ⊥) (sym is) (go r read write)
-  where
-    go : (r : Result Verdict Fault) → (IsErrOf r Read → A) → (IsErrOf r Write → B) → HasCause (status_after r) A B ⊥ ⊥
-    go (Ok Good) read write = tt
-    go (Ok Found) read write = tt
-    go (Ok Refused) read write = tt
-    go (Err Read) read write = read refl
-    go (Err Write) read write = write refl
-    go (Err Memory) read write = tt
+cause_after s r A B is read write = record {
+  by_read = λ failed. read (same_end r (Err Read) (sym is ∙ failed));
+  by_write = λ failed. write (same_end r (Err Write) (sym is ∙ failed));
+  by_keeper = λ failed. subst IsAnswered (sym is ∙ failed) (known_after r);
+  by_net = λ failed. subst IsAnswered (sym is ∙ failed) (known_after r);
+}
 
-pub cause_of : (s : Status) (A B C D : Type 0) → (s ≡ ReadFault → A) → (s ≡ WriteFault → B) → (s ≡ KeepFault → C) → (s ≡ NetFault → D) → HasCause s A B C D
-cause_of Done A B C D read write keep net = tt
-cause_of Fork A B C D read write keep net = tt
-cause_of WordsRefused A B C D read write keep net = tt
-cause_of InputRefused A B C D read write keep net = tt
-cause_of ReadFault A B C D read write keep net = read refl
-cause_of WriteFault A B C D read write keep net = write refl
-cause_of OutOfMemory A B C D read write keep net = tt
-cause_of KeepFault A B C D read write keep net = keep refl
-cause_of NetFault A B C D read write keep net = net refl
-cause_of StoreFull A B C D read write keep net = tt
+-- what no other call can cause has the cause of these two, and a failed write may be another's
+pub cause_among : (s : Status) (A B X C D : Type 0) → HasCause s A B ⊥ ⊥ → HasCause s A (B ⊎ X) C D
+cause_among s A B X C D cause = record {
+  by_read = cause.by_read;
+  by_write = λ failed. inl (cause.by_write failed);
+  by_keeper = λ failed. absurd (cause.by_keeper failed);
+  by_net = λ failed. absurd (cause.by_net failed);
+}
 
--- what no other call can cause has the cause of these two
-pub cause_among : (s : Status) (A B C D : Type 0) → HasCause s A B ⊥ ⊥ → HasCause s A B C D
-cause_among Done A B C D cause = tt
-cause_among Fork A B C D cause = tt
-cause_among WordsRefused A B C D cause = tt
-cause_among InputRefused A B C D cause = tt
-cause_among ReadFault A B C D cause = cause
-cause_among WriteFault A B C D cause = cause
-cause_among OutOfMemory A B C D cause = tt
-cause_among KeepFault A B C D cause = absurd cause
-cause_among NetFault A B C D cause = absurd cause
-cause_among StoreFull A B C D cause = tt
+names_fault : Status → Bool
+names_fault ReadFault = true
+names_fault WriteFault = true
+names_fault KeepFault = true
+names_fault NetFault = true
+names_fault other = false
 
--- and a failed write may be another's
-pub cause_or : (s : Status) (A B X C D : Type 0) → HasCause s A B C D → HasCause s A (B ⊎ X) C D
-cause_or Done A B X C D cause = tt
-cause_or Fork A B X C D cause = tt
-cause_or WordsRefused A B X C D cause = tt
-cause_or InputRefused A B X C D cause = tt
-cause_or ReadFault A B X C D cause = cause
-cause_or WriteFault A B X C D cause = inl cause
-cause_or OutOfMemory A B X C D cause = tt
-cause_or KeepFault A B X C D cause = cause
-cause_or NetFault A B X C D cause = cause
-cause_or StoreFull A B X C D cause = tt
+-- a status that names no fault needs no cause
+pub uncaused : (s t : Status) (A B C D : Type 0) → names_fault t ≡ false → s ≡ t → HasCause s A B C D
+uncaused s t A B C D calm is =
+    let no : (u : Status) → names_fault u ≡ true → s ≡ u → ⊥ =
+    λ u named failed. let both = sym calm ∙ (ap names_fault (sym is ∙ failed) ∙ named) in absurd cc in
+    record {
+      by_read = λ failed. absurd (no ReadFault refl failed);
+      by_write = λ failed. absurd (no WriteFault refl failed);
+      by_keeper = λ failed. absurd (no KeepFault refl failed);
+      by_net = λ failed. absurd (no NetFault refl failed);
+    }
 
 -- nothing is told before the first byte
 quiet : (telling : Telling) → (promise_by telling).soon [] ≡ silence

@@ -2,7 +2,7 @@
 use Rattle.std.specs.Prelude.{◌≡◌, ℕ, List, ◌++◌, Some}
 use Rattle.std.specs.declared.option.Option.{Option}
 use Rattle.xl_base.specs.declared.status.Status.{Status}
-use Rattle.xl_base.specs.declared.status.Status.TheVariants.{Done, Fork, WordsRefused, InputRefused, ReadFault, WriteFault, OutOfMemory, KeepFault, NetFault, StoreFull}
+use Rattle.xl_base.specs.declared.status.Status.TheVariants.{Done, Fork, WordsRefused, InputRefused, KeepFault, NetFault, StoreFull}
 use Rattle.xl_lines.specs.declared.machine.Verdict.{Verdict}
 use Rattle.xl_lines.specs.declared.machine.Verdict.TheVariants.{Good, Found, Refused}
 
@@ -11,26 +11,15 @@ abbrev pub IsTold : Status → Type 0
 IsTold Done = Unit {0}
 IsTold Fork = Unit {0}
 IsTold InputRefused = Unit {0}
-IsTold WordsRefused = ⊥
-IsTold ReadFault = ⊥
-IsTold WriteFault = ⊥
-IsTold OutOfMemory = ⊥
-IsTold KeepFault = ⊥
-IsTold NetFault = ⊥
-IsTold StoreFull = ⊥
+IsTold other = ⊥
 
 -- such a command may answer it
 abbrev pub IsAnswered : Status → Type 0
-IsAnswered Done = Unit {0}
-IsAnswered Fork = Unit {0}
-IsAnswered InputRefused = Unit {0}
-IsAnswered ReadFault = Unit {0}
-IsAnswered WriteFault = Unit {0}
-IsAnswered OutOfMemory = Unit {0}
 IsAnswered WordsRefused = ⊥
 IsAnswered KeepFault = ⊥
 IsAnswered NetFault = ⊥
 IsAnswered StoreFull = ⊥
+IsAnswered other = Unit {0}
 
 -- the status of a text that is written whole
 abbrev pub status_of : Verdict → Status

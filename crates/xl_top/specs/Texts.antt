@@ -53,9 +53,8 @@ pub record WritesText (telling : Telling) (old new : Streams) (end : Status) : T
       → (end ≡ status_of ((promise_by telling).told bytes).verdict) ⊎ (end ≡ status.OutOfMemory))
 
 -- a status that names a fault is answered only if a call of that kind failed
-abbrev pub HasCause : Status → (read write keep net : Type 0) → Type 0
-HasCause status.ReadFault read write keep net = read
-HasCause status.WriteFault read write keep net = write
-HasCause status.KeepFault read write keep net = keep
-HasCause status.NetFault read write keep net = net
-HasCause other read write keep net = Unit {0}
+pub record HasCause (ended : Status) (read write keep net : Type 0) : Type 0 where
+  pub by_read : ended ≡ status.ReadFault → read
+  pub by_write : ended ≡ status.WriteFault → write
+  pub by_keeper : ended ≡ status.KeepFault → keep
+  pub by_net : ended ≡ status.NetFault → net

@@ -14,7 +14,7 @@ use Rattle.xl_words.specs.Commands.{command_of, words_of}
 use Rattle.xl_top.specs.Commands.{telling_in, told_of}
 use Rattle.xl_top.specs.Texts.{WritesText, HasCause}
 use Rattle.xl_texts.specs.Streams.{streams}
-use Rattle.xl_top.proofs.After.{if_any, cause_of, cause_among, cause_or, nothing_done}
+use Rattle.xl_top.proofs.After.{if_any, cause_among, uncaused, nothing_done}
 use Rattle.xl_top.proofs.Asking.{by_asked, unasked, by_none}
 use Rattle.xl_top.proofs.command.top.Goals as goal
 
@@ -151,8 +151,7 @@ returns-in-Ok-Tell-clause-cause g c =
     let linked = Rose (g.H.Hub.faults c.args.hub.now) (g.H.Hub.faults c.args.hub.now) in
     subst (λ (x : Status). HasCause x read (wrote ⊎ HasFailed c.unopened.result.recorder) kept linked)
     (sym c.unopened.ensures.status)
-    (cause_or c.write_text.result read wrote (HasFailed c.unopened.result.recorder) kept linked
-    (cause_among c.write_text.result read wrote kept linked c.write_text.ensures.cause))
+    (cause_among c.write_text.result read wrote (HasFailed c.unopened.result.recorder) kept linked c.write_text.ensures.cause)
 
 pub returns-in-Ok-Node-clause-words : goal.returns-in-Ok-Node-clause-words
 returns-in-Ok-Node-clause-words g c =
@@ -164,7 +163,12 @@ returns-in-Ok-Node-clause-text g c =
 
 pub returns-in-Ok-Node-clause-cause : goal.returns-in-Ok-Node-clause-cause
 returns-in-Ok-Node-clause-cause g c =
-    cause_of c.validator.result.status _ _ _ _ c.validator.ensures.read c.validator.ensures.write c.validator.ensures.keeper c.validator.ensures.net
+    record {
+      by_read = c.validator.ensures.read;
+      by_write = c.validator.ensures.write;
+      by_keeper = c.validator.ensures.keeper;
+      by_net = c.validator.ensures.net;
+    }
 
 pub returns-in-Err-Refused-clause-words : goal.returns-in-Err-Refused-clause-words
 returns-in-Err-Refused-clause-words g c =
@@ -176,7 +180,7 @@ returns-in-Err-Refused-clause-text g c =
 
 pub returns-in-Err-Refused-clause-cause : goal.returns-in-Err-Refused-clause-cause
 returns-in-Err-Refused-clause-cause g c =
-    subst (λ (x : Status). HasCause x (Rose (g.I.Source.faults c.args.input.now) (g.I.Source.faults c.args.input.now)) (Rose (g.O.Sink.faults c.args.output.now) (g.O.Sink.faults c.args.output.now) ⊎ HasFailed c.unopened-in-Err-Refused.result.recorder) (Rose (g.K.Keeper.faults c.args.keeper) (g.K.Keeper.faults c.unopened-in-Err-Refused.result.keeper)) (Rose (g.H.Hub.faults c.args.hub.now) (g.H.Hub.faults c.args.hub.now))) (sym c.unopened-in-Err-Refused.ensures.status) tt
+    uncaused _ status.WordsRefused _ _ _ _ refl c.unopened-in-Err-Refused.ensures.status
 
 pub returns-in-Err-Memory-clause-words : goal.returns-in-Err-Memory-clause-words
 returns-in-Err-Memory-clause-words g c =
@@ -188,7 +192,7 @@ returns-in-Err-Memory-clause-text g c =
 
 pub returns-in-Err-Memory-clause-cause : goal.returns-in-Err-Memory-clause-cause
 returns-in-Err-Memory-clause-cause g c =
-    subst (λ (x : Status). HasCause x (Rose (g.I.Source.faults c.args.input.now) (g.I.Source.faults c.args.input.now)) (Rose (g.O.Sink.faults c.args.output.now) (g.O.Sink.faults c.args.output.now) ⊎ HasFailed c.unopened-in-Err-Memory.result.recorder) (Rose (g.K.Keeper.faults c.args.keeper) (g.K.Keeper.faults c.unopened-in-Err-Memory.result.keeper)) (Rose (g.H.Hub.faults c.args.hub.now) (g.H.Hub.faults c.args.hub.now))) (sym c.unopened-in-Err-Memory.ensures.status) tt
+    uncaused _ status.OutOfMemory _ _ _ _ refl c.unopened-in-Err-Memory.ensures.status
 
 pub returns-in-Ok-Tell-clause-unread : goal.returns-in-Ok-Tell-clause-unread
 returns-in-Ok-Tell-clause-unread g c =
