@@ -1,12 +1,13 @@
 -- What the keys of a journal say of each other.
-use Rattle.std.proofs.Common.{◌≡◌, ◌≤◌, ℕ, Bool, true, false, List, Option, Some, None, IfSome, refl, sym, ap, subst, arith, is_some}
+use Rattle.std.proofs.Common.{◌≡◌, ◌≤◌, ℕ, Bool, true, false, List, Option, Some, None, IfSome, refl, subst, arith, not}
 use Rattle.std.proofs.lemmas.Option.{same_Some}
 use Rattle.toml.specs.Data.{Data}
-use Rattle.xl_settings.specs.Journals.{bytes_from, file_from, is_behind}
+use Rattle.xl_settings.specs.Journals.{bytes_from, is_behind}
 use Rattle.xl_settings.specs.Limits.{usual_journal_bytes, greatest_journal_bytes}
+use Rattle.xl_settings.specs.Paths.{path_if}
 use Rattle.xl_settings.proofs.Bounds.{whole_bounded}
 
-file_apart : (behind : Bool) (value : Option Data) (file : Option (List ℕ)) → file_from behind value ≡ Some file
+file_apart : (behind : Bool) (value : Option Data) (file : Option (List ℕ)) → path_if (not behind) value ≡ Some file
     → IfSome file (λ _. behind ≡ false)
 file_apart behind None file e = subst (λ (o : Option (List ℕ)). IfSome o (λ _. behind ≡ false)) (same_Some None file e) tt
 file_apart true (Some value) file e = cc
@@ -15,7 +16,7 @@ file_apart false (Some value) (Some path) e = refl
 
 -- a journal that is written to a file isn't written behind the run
 pub apart : (asked : Option Bool) (journal : Bool) (value : Option Data) (file : Option (List ℕ))
-    → asked ≡ Some journal → file_from (is_behind asked) value ≡ Some file
+    → asked ≡ Some journal → path_if (not (is_behind asked)) value ≡ Some file
     → IfSome file (λ _. journal ≡ false)
 apart None journal value file e f = cc
 apart (Some behind) journal value file e f =

@@ -43,39 +43,6 @@ named_by_support kept now threshold m low is =
 
 -- ---- what holds of more holds of fewer
 
-all_of_fewer : (q more fewer : ℕ → Bool) → ((m : ℕ) → fewer m ≡ true → more m ≡ true) → (xs : List ℕ)
-    → list_all q (filter more xs) ≡ true → list_all q (filter fewer xs) ≡ true
-all_of_fewer q more fewer within [] all = refl
-all_of_fewer q more fewer within (x ∷ xs) all =
-    elim (cases_Bool (fewer x)) [
-      | inl few ↦
-          let both = and_parts (q x) (list_all q (filter more xs))
-          (sym (ap (list_all q) (cond-true (more x) (x ∷ filter more xs) (filter more xs) (within x few))) ∙ all) in
-          ap (list_all q) (cond-true (fewer x) (x ∷ filter fewer xs) (filter fewer xs) few)
-          ∙ and_from (q x) (list_all q (filter fewer xs)) both.0 (all_of_fewer q more fewer within xs both.1)
-      | inr none ↦
-          ap (list_all q) (cond-false (fewer x) (x ∷ filter fewer xs) (filter fewer xs) none)
-          ∙ all_of_fewer q more fewer within xs (tail (more x) all)
-    ]
-  where
-    tail : (b : Bool) → list_all q (cond b (x ∷ filter more xs) (filter more xs)) ≡ true
-        → list_all q (filter more xs) ≡ true
-    tail true h = (and_parts (q x) (list_all q (filter more xs)) h).1
-    tail false h = h
-
--- peers that meet all members of these meet those of fewer
-peers_of_fewer : (me : ℕ) (peers : List PeerSetting) (more fewer : List ℕ)
-    → (list_all (λ m. m == me || is_peer peers m) more ≡ true
-    → list_all (λ m. m == me || is_peer peers m) fewer ≡ true)
-    → are_peers me more peers ≡ true → are_peers me fewer peers ≡ true
-peers_of_fewer me peers more fewer still met =
-    let a = not (is_peer peers me) in
-    let b = are_different nat_eq (map (λ peer. peer.number) peers) in
-    let outer = and_parts a (b && list_all (λ m. m == me || is_peer peers m) more) met in
-    let inner = and_parts b (list_all (λ m. m == me || is_peer peers m) more) outer.1 in
-    and_from a (b && list_all (λ m. m == me || is_peer peers m) fewer) outer.0
-    (and_from b (list_all (λ m. m == me || is_peer peers m) fewer) inner.0 (still inner.1))
-
 -- what holds of more, or of itself, holds of fewer
 all_joined : (q more fewer : ℕ → Bool) → ((m : ℕ) → fewer m ≡ true → (more m ≡ true) ⊎ (q m ≡ true)) → (xs : List ℕ)
     → list_all q (filter more xs) ≡ true → list_all q (filter fewer xs) ≡ true
@@ -101,6 +68,23 @@ all_joined q more fewer within (x ∷ xs) all =
         (and_parts (q x) (list_all q (filter more xs))
         (sym (ap (list_all q) (cond-true (more x) (x ∷ filter more xs) (filter more xs) many)) ∙ all)).0
     this (inr so) = so
+
+all_of_fewer : (q more fewer : ℕ → Bool) → ((m : ℕ) → fewer m ≡ true → more m ≡ true) → (xs : List ℕ)
+    → list_all q (filter more xs) ≡ true → list_all q (filter fewer xs) ≡ true
+all_of_fewer q more fewer within = all_joined q more fewer (λ m few. inl (within m few))
+
+-- peers that meet all members of these meet those of fewer
+peers_of_fewer : (me : ℕ) (peers : List PeerSetting) (more fewer : List ℕ)
+    → (list_all (λ m. m == me || is_peer peers m) more ≡ true
+    → list_all (λ m. m == me || is_peer peers m) fewer ≡ true)
+    → are_peers me more peers ≡ true → are_peers me fewer peers ≡ true
+peers_of_fewer me peers more fewer still met =
+    let a = not (is_peer peers me) in
+    let b = are_different nat_eq (map (λ peer. peer.number) peers) in
+    let outer = and_parts a (b && list_all (λ m. m == me || is_peer peers m) more) met in
+    let inner = and_parts b (list_all (λ m. m == me || is_peer peers m) more) outer.1 in
+    and_from a (b && list_all (λ m. m == me || is_peer peers m) fewer) outer.0
+    (and_from b (list_all (λ m. m == me || is_peer peers m) fewer) inner.0 (still inner.1))
 
 -- members that were named before, or are peers or me, are met as those before were
 pub met_later : (me : ℕ) (peers : List PeerSetting) (first kept : List (Option (List ℕ)))

@@ -4,7 +4,7 @@ use Rattle.std.proofs.lemmas.Bool.Decides.{nat_tests}
 use Rattle.xl_settings.specs.Answers.{GivenBytes, IsNoRefusal, IsReadOut}
 use Rattle.xl_settings.specs.Settings.{settings_of}
 use Rattle.xl_settings.specs.declared.fault.SettingsFault.{SettingsFault}
-use Rattle.xl_settings.specs.declared.fault.SettingsFault.TheVariants.{Refused, Read, OutOfMemory}
+use Rattle.xl_settings.specs.declared.fault.SettingsFault.TheVariants.{Refused}
 use Rattle.xl_settings.specs.Limits.{most_bytes}
 use Rattle.xl_settings.specs.declared.refusal.SettingsRefusal.TheVariants.{Length}
 use Rattle.xl_settings.specs.declared.settings.Settings.{Settings}
@@ -23,7 +23,5 @@ pub by_fault : (old left : Option (List ℕ)) (now : ℕ) (fault : SettingsFault
     → IfSome old (λ all. GivenBytes {A = Settings} (Err fault) (settings_of all now)) × IsReadOut {A =
     Settings} (Err fault) left
 by_fault old left now (Refused refusal) h = absurd h
-by_fault None left now Read h = (tt, tt)
-by_fault (Some all) left now Read h = (tt, tt)
-by_fault None left now OutOfMemory h = (tt, tt)
-by_fault (Some all) left now OutOfMemory h = (tt, tt)
+by_fault None left now other h = (tt, tt)
+by_fault (Some all) left now other h = (tt, tt)

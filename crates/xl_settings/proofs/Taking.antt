@@ -1,8 +1,8 @@
 -- Rolls that are taken one after the other.
 use Rattle.std.proofs.Common.{◌≡◌, ◌∙◌, ◌+◌, ◌<◌, ◌≤◌, ℕ, Bool, true, false, List, [], ◌∷◌, ◌&&◌, Option, Some, None, get_or, take, length, refl, sym, ap, ap₂}
-use Rattle.std.specs.Prelude.{is_none, is_err, Result}
+use Rattle.std.specs.Prelude.{is_none, is_err, not, Result}
 use Rattle.std.specs.List.{fold, list_all}
-use Rattle.std.proofs.lemmas.Bool.{cond_both, true≢false}
+use Rattle.std.proofs.lemmas.Bool.{cond_both}
 use Rattle.std.proofs.lemmas.List.{take_more, take_all}
 use Rattle.std.proofs.lemmas.List.Folds.{list_all_more}
 use Rattle.std.proofs.lemmas.List.Sums.{fold-append}
@@ -39,15 +39,11 @@ pub record AreTaken (keys : List PublisherKey) (rolls : List (List ℕ)) (i : �
   pub register : r ≡ register_after keys (take i rolls)
   pub all_of : all ≡ list_all (is_taken (keyed keys)) (take i rolls)
 
-right_if : (refusal : Option RollRefusal) (took : Took) (answer : Result Took RollRefusal)
-    → answer ≡ unless_refused refusal took → is_err answer ≡ false → is_none refusal ≡ true
-right_if None took answer is ok = refl
-right_if (Some cause) took answer is ok = absurd (true≢false (sym (ap is_err is) ∙ ok))
-
-wrong_if : (refusal : Option RollRefusal) (took : Took) (answer : Result Took RollRefusal)
-    → answer ≡ unless_refused refusal took → is_err answer ≡ true → is_none refusal ≡ false
-wrong_if None took answer is bad = absurd (true≢false (sym bad ∙ ap is_err is))
-wrong_if (Some cause) took answer is bad = refl
+-- a roll is refused if its answer is an error
+refused_if : (refusal : Option RollRefusal) (took : Took) (answer : Result Took RollRefusal)
+    → answer ≡ unless_refused refusal took → is_none refusal ≡ not (is_err answer)
+refused_if None took answer is = sym (ap (λ (a : Result Took RollRefusal). not (is_err a)) is)
+refused_if (Some cause) took answer is = sym (ap (λ (a : Result Took RollRefusal). not (is_err a)) is)
 
 -- the keys are those that the publishers had at first
 same_keys : (keys : List PublisherKey) (rolls : List (List ℕ)) (i : ℕ) (r : Register) (all : Bool)
@@ -67,35 +63,24 @@ one_more keys rolls i r new all so d lt is so_is taken = record {
       ∙ sym (list_all_more (is_taken (keyed keys)) rolls i d lt);
 }
 
-and_yes : (all b : Bool) → b ≡ true → all ≡ (all && b)
-and_yes true b is = sym is
-and_yes false b is = refl
+pub after_none : (all bad : Bool) → bad ≡ false → all ≡ (all && not bad)
+after_none true bad is = sym (ap not is)
+after_none false bad is = refl
 
-and_no : (all b : Bool) → b ≡ false → false ≡ (all && b)
-and_no true b is = sym is
-and_no false b is = refl
+pub after_one : (all bad : Bool) → bad ≡ true → false ≡ (all && not bad)
+after_one true bad is = sym (ap not is)
+after_one false bad is = refl
 
--- a roll more, which isn't refused
-pub taken_on : (keys : List PublisherKey) (rolls : List (List ℕ)) (i : ℕ) (r new : Register) (all : Bool) (d : List ℕ)
+-- a roll more, refused or not
+pub taken_on : (keys : List PublisherKey) (rolls : List (List ℕ)) (i : ℕ) (r new : Register) (all so : Bool) (d : List ℕ)
     (answer : Result Took RollRefusal) → i < length rolls → answer ≡ answer_to r (get_or rolls i d)
-    → new ≡ after_roll r (get_or rolls i d) → is_err answer ≡ false
-    → AreTaken keys rolls i r all → AreTaken keys rolls (i + 1) new all
-taken_on keys rolls i r new all d answer lt said is ok taken =
+    → new ≡ after_roll r (get_or rolls i d) → so ≡ (all && not (is_err answer))
+    → AreTaken keys rolls i r all → AreTaken keys rolls (i + 1) new so
+taken_on keys rolls i r new all so d answer lt said is so_is taken =
     let roll = get_or rolls i d in
-    let right = right_if (refusal_of r.keys roll) (took_of (kept_of r (publisher_in roll)) roll) answer said ok in
+    let right = refused_if (refusal_of r.keys roll) (took_of (kept_of r (publisher_in roll)) roll) answer said in
     let test = ap (λ ks. is_none (refusal_of ks roll)) (sym (same_keys keys rolls i r all taken)) ∙ right in
-    one_more keys rolls i r new all all d lt is (and_yes all (is_taken (keyed keys) roll) test) taken
-
--- a roll more, which is
-pub refused_on : (keys : List PublisherKey) (rolls : List (List ℕ)) (i : ℕ) (r new : Register) (all : Bool) (d : List ℕ)
-    (answer : Result Took RollRefusal) → i < length rolls → answer ≡ answer_to r (get_or rolls i d)
-    → new ≡ after_roll r (get_or rolls i d) → is_err answer ≡ true
-    → AreTaken keys rolls i r all → AreTaken keys rolls (i + 1) new false
-refused_on keys rolls i r new all d answer lt said is bad taken =
-    let roll = get_or rolls i d in
-    let wrong = wrong_if (refusal_of r.keys roll) (took_of (kept_of r (publisher_in roll)) roll) answer said bad in
-    let test = ap (λ ks. is_none (refusal_of ks roll)) (sym (same_keys keys rolls i r all taken)) ∙ wrong in
-    one_more keys rolls i r new all false d lt is (and_no all (is_taken (keyed keys) roll) test) taken
+    one_more keys rolls i r new all so d lt is (so_is ∙ ap (λ (b : Bool). all && b) (sym test)) taken
 
 abbrev pub taken_as : Register → Bool → Taken
 taken_as publishers all = record { publishers = publishers; all = all }

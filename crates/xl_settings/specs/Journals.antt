@@ -1,9 +1,9 @@
 -- Whether the journal is written, and where. Source: this project's own format.
-use Rattle.std.specs.Prelude.{ℕ, Bool, true, false, List, Option, Some, None, is_some}
+use Rattle.std.specs.Prelude.{ℕ, Bool, true, false, List, Option, Some, None, is_some, not}
 use Rattle.toml.specs.Data.{Data, Members, as_bool}
 use Rattle.xl_settings.specs.declared.key_name.KeyName.TheVariants as key
 use Rattle.xl_settings.specs.Limits.{usual_journal_bytes, greatest_journal_bytes}
-use Rattle.xl_settings.specs.Paths.{path_in}
+use Rattle.xl_settings.specs.Paths.{path_if}
 use Rattle.xl_settings.specs.Values.{at, whole, or_default}
 
 -- whether it is written behind the reports
@@ -18,15 +18,9 @@ abbrev pub is_behind : Option Bool → Bool
 is_behind None = false
 is_behind (Some behind) = behind
 
--- a journal that is written behind the reports is written to no file
-abbrev pub file_from : Bool → Option Data → Option (Option (List ℕ))
-file_from behind None = Some None
-file_from true (Some value) = None
-file_from false (Some value) = path_in value
-
--- the file to which it is written as it goes: none if the key doesn't stand
+-- the file to which it is written as it goes: none if the key doesn't stand, and behind the reports it may not
 abbrev pub journal_file_at : Members → Option (Option (List ℕ))
-journal_file_at table = file_from (is_behind (journal_at table)) (at key.JournalFile table)
+journal_file_at table = path_if (not (is_behind (journal_at table))) (at key.JournalFile table)
 
 -- without a file nothing bounds it
 abbrev pub bytes_from : Bool → Option Data → Option ℕ

@@ -18,12 +18,12 @@ path_in value = option_and_then that_is_path (as_str value)
 abbrev pub status_at : Members → Option (Option (List ℕ))
 status_at table = or_default None path_in (at key.Status table)
 
--- without publishers no rolls are looked at
-abbrev pub rolls_from : Bool → Option Data → Option (Option (List ℕ))
-rolls_from publishers None = Some None
-rolls_from true (Some value) = path_in value
-rolls_from false (Some value) = None
+-- a path that may stand under some condition alone
+abbrev pub path_if : Bool → Option Data → Option (Option (List ℕ))
+path_if may None = Some None
+path_if true (Some value) = path_in value
+path_if false (Some value) = None
 
--- the text of rolls that is looked at: none if the key doesn't stand
+-- the text of rolls that is looked at: none if the key doesn't stand, and without publishers it may not
 abbrev pub rolls_path_at : Members → Option (Option (List ℕ))
-rolls_path_at table = rolls_from (has_publishers table) (at key.Rolls table)
+rolls_path_at table = path_if (has_publishers table) (at key.Rolls table)

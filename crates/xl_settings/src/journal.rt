@@ -2,10 +2,10 @@
 ghost use Rattle.std.specs.Prelude.{◌≡◌, Some, IfOk, is_some};
 ghost use Rattle.toml.specs.View.{table_view, view};
 ghost use Rattle.xl_settings.specs.declared.key_name.KeyName.TheVariants as key;
-ghost use Rattle.xl_settings.specs.Journals.{bytes_from, file_from, is_behind, journal_at, journal_bytes_at, journal_file_at, journal_keys_at};
+ghost use Rattle.xl_settings.specs.Journals.{bytes_from, is_behind, journal_at, journal_bytes_at, journal_file_at, journal_keys_at};
 ghost use Rattle.xl_settings.specs.Values.{at};
 
-use crate::path::path_in;
+use crate::path::path_if;
 use crate::values::{value_at, whole};
 use crate::{KeyName, limits};
 use std::alloc::Global;
@@ -42,7 +42,7 @@ pub fn journal_file_at(
     ensures { IfOk result (λ path. path ≡ journal_file_at (table_view table.now)) }
 {
     match value_at(table, KeyName::JournalFile.text()) {
-        Some(value) => file_in(alloc, is_behind(table), value),
+        Some(value) => path_if(alloc, !is_behind(table), value),
         None => Ok(Some(None)),
     }
 }
@@ -54,21 +54,6 @@ fn is_behind(table: &Table) -> bool
     match journal_at(table) {
         Some(behind) => behind,
         None => false,
-    }
-}
-
-/// The path that a value is, unless the journal is written behind the reports.
-fn file_in(
-    alloc: Global,
-    behind: bool,
-    value: &Value,
-) -> Result<Option<Option<FilePath>>, OutOfMemory>
-    ensures { IfOk result (λ path. path ≡ file_from behind (Some (view value.now))) }
-{
-    if behind {
-        Ok(None)
-    } else {
-        path_in(alloc, value)
     }
 }
 

@@ -1,7 +1,7 @@
 // The path of a file.
 ghost use Rattle.std.specs.Prelude.{◌≡◌, Some, IfOk};
 ghost use Rattle.toml.specs.View.{table_view, view};
-ghost use Rattle.xl_settings.specs.Paths.{status_at, path_in, rolls_from, rolls_path_at, that_is_path};
+ghost use Rattle.xl_settings.specs.Paths.{status_at, path_in, path_if, rolls_path_at, that_is_path};
 
 use crate::KeyName;
 use crate::publishers::has_publishers;
@@ -26,20 +26,20 @@ pub fn rolls_path_at(alloc: Global, table: &Table) -> Result<Option<Option<FileP
     ensures { IfOk result (λ path. path ≡ rolls_path_at (table_view table.now)) }
 {
     match value_at(table, KeyName::Rolls.text()) {
-        Some(value) => rolls_in(alloc, has_publishers(table), value),
+        Some(value) => path_if(alloc, has_publishers(table), value),
         None => Ok(Some(None)),
     }
 }
 
-/// The path that a value is, if there are publishers.
-fn rolls_in(
+/// The path that a value is, if one may stand there.
+pub fn path_if(
     alloc: Global,
-    publishers: bool,
+    may: bool,
     value: &Value,
 ) -> Result<Option<Option<FilePath>>, OutOfMemory>
-    ensures { IfOk result (λ path. path ≡ rolls_from publishers (Some (view value.now))) }
+    ensures { IfOk result (λ path. path ≡ path_if may (Some (view value.now))) }
 {
-    if publishers {
+    if may {
         path_in(alloc, value)
     } else {
         Ok(None)
