@@ -39,11 +39,7 @@ pub fn path_if(
 ) -> Result<Option<Option<FilePath>>, OutOfMemory>
     ensures { IfOk result (λ path. path ≡ path_if may (Some (view value.now))) }
 {
-    if may {
-        path_in(alloc, value)
-    } else {
-        Ok(None)
-    }
+    if may { path_in(alloc, value) } else { Ok(None) }
 }
 
 /// The path that a value is.
