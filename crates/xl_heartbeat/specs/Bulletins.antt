@@ -9,6 +9,7 @@ use Rattle.xl_store.specs.declared.entry.Entry.{Entry}
 use Rattle.xl_store.specs.declared.status.NodeStatus.{NodeStatus}
 use Rattle.xl_store.specs.Entries.{life_of}
 use Rattle.xl_store.specs.Statuses.{status_of}
+use Rattle.xl_status.specs.declared.end.End.{End}
 use Rattle.xl_status.specs.declared.look.Look.{Look}
 use Rattle.xl_status.specs.Hearings.{after_status}
 use Rattle.xl_status.specs.Texts.{status_text, unopened_text}
@@ -47,7 +48,7 @@ module _ {D : Type 0} (gives : D → List ℕ → Bool → D → Type 0) where
     pub board : Shows (status_text old.profile status new.hearing old.look None) old.board new.board
 
   -- the same of the end, behind which no text is due
-  pub record TellsEnd (status : NodeStatus) (ended : Status) (old new : Bulletin D) : Type 0 where
+  pub record TellsEnd (status : NodeStatus) (ended : End) (old new : Bulletin D) : Type 0 where
     pub profile : new.profile ≡ old.profile
     pub hearing : new.hearing ≡ after_status old.hearing status
     pub due : new.due ≡ old.due

@@ -8,7 +8,7 @@ ghost use Rattle.xl_heartbeat.specs.Bulletins.{is_due as is_due_of, NotesIf, Sho
 use std::alloc::Global;
 use xl_base::{Millis, OutOfMemory, Status};
 use xl_board::Board;
-use xl_status::{Hearing, Look, Profile, push_status, push_unopened};
+use xl_status::{End, Hearing, Look, Profile, push_status, push_unopened};
 use xl_store::NodeStatus;
 
 /// The milliseconds from text to text.
@@ -47,14 +47,14 @@ impl<D: Board> Bulletin<D> {
     }
 
     /// Tells how the node was at its end, and how that came, once its core is at rest.
-    pub fn tell_end(&mut self, status: &NodeStatus, ended: Status)
+    pub fn tell_end(&mut self, status: &NodeStatus, ended: End)
         ensures { TellsEnd D.show_gives status.now ended self.old self.new }
     {
         self.show(status, Some(ended));
     }
 
     /// Shows the text of a node that runs, or that has ended so, if there is memory for it.
-    fn show(&mut self, status: &NodeStatus, ended: Option<Status>)
+    fn show(&mut self, status: &NodeStatus, ended: Option<End>)
         ensures profile { self.new.profile ≡ self.old.profile }
         ensures hearing { self.new.hearing ≡ after_status self.old.hearing status.now }
         ensures due { self.new.due ≡ self.old.due }
@@ -105,7 +105,7 @@ fn text_of(
     hearing: &Hearing,
     status: &NodeStatus,
     look: Option<Look>,
-    ended: Option<Status>,
+    ended: Option<End>,
 ) -> Result<String, OutOfMemory>
     ensures { IfOk result (λ text. string_bytes text ≡ status_text profile.now status.now hearing.now look ended) }
 {

@@ -8,6 +8,9 @@ use Rattle.xl_base.specs.declared.status.Status.TheVariants.{Done, KeepFault, Ne
 use Rattle.xl_base.specs.Statuses.{code_of}
 use Rattle.xl_core.specs.declared.report.Report.{Report}
 use Rattle.xl_store.specs.declared.status.NodeStatus.{NodeStatus}
+use Rattle.xl_status.specs.declared.end.End.{End}
+use Rattle.xl_status.specs.declared.end.Unmade.{Unmade}
+use Rattle.xl_status.specs.declared.end.Unmade.TheVariants.{Link, Door}
 use Rattle.xl_status.specs.declared.hearing.Hearing.{Hearing}
 use Rattle.xl_status.specs.declared.look.Look.{Look}
 use Rattle.xl_status.specs.declared.look.Look.TheVariants.{Taken, Unread, Refused}
@@ -86,21 +89,30 @@ look_line (Some Unread) = line (codes "rolls") (codes "unread")
 look_line (Some (Refused number code)) =
     line (codes "rolls") (codes "refused " ++ decimal number ++ space ++ decimal code)
 
--- what an end names: the key whose bound was reached, the file that failed, or the key of the addresses of which one did
-abbrev pub named_by : Status → List ℕ
-named_by Done = codes " run_ms"
-named_by KeepFault = codes " xl.keep"
-named_by NetFault = codes " peer"
-named_by StoreFull = codes " turns"
-named_by other = []
+-- what the hub couldn't make, by the key of the address: the link to this peer, or the door
+abbrev pub unmade_name : Option Unmade → List ℕ
+unmade_name None = []
+unmade_name (Some (Link member)) = codes " peer " ++ decimal member
+unmade_name (Some Door) = codes " submit_at"
 
--- it runs, or has ended with this exit status
-abbrev pub end_line : Option Status → List ℕ
+-- what an end names: the key whose bound was reached, the file that failed, or what the hub couldn't make
+abbrev pub named_by : Status → Option Unmade → List ℕ
+named_by Done unmade = codes " run_ms"
+named_by KeepFault unmade = codes " xl.keep"
+named_by NetFault unmade = unmade_name unmade
+named_by StoreFull unmade = codes " turns"
+named_by other unmade = []
+
+abbrev pub end_at : Status → Option Unmade → End
+end_at status unmade = record { status = status; unmade = unmade }
+
+-- it runs, or has ended so
+abbrev pub end_line : Option End → List ℕ
 end_line None = codes "runs" ++ newline
-end_line (Some status) = line (codes "ended") (decimal (code_of status) ++ named_by status)
+end_line (Some end) = line (codes "ended") (decimal (code_of end.status) ++ named_by end.status end.unmade)
 
 -- all of it
-abbrev pub status_text : Profile → NodeStatus → Hearing → Option Look → Option Status → List ℕ
+abbrev pub status_text : Profile → NodeStatus → Hearing → Option Look → Option End → List ℕ
 status_text profile status hearing look ended =
     line (codes "xl-status") (codes "1")
     ++ profile_lines profile
@@ -109,10 +121,10 @@ status_text profile status hearing look ended =
     ++ look_line look
     ++ end_line ended
 
--- what is told of a node whose core was never opened, by the moment at which it should have been
+-- what is told of a node whose core was never opened, by the moment at which it should have been: its hub was asked nothing
 abbrev pub unopened_text : Profile → ℕ → Status → List ℕ
 unopened_text profile moment ended =
     line (codes "xl-status") (codes "1")
     ++ profile_lines profile
     ++ number_line (codes "moment") moment
-    ++ end_line (Some ended)
+    ++ end_line (Some (end_at ended None))

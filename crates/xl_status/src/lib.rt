@@ -5,11 +5,13 @@
 //! moment since which a member is silent is that of the last status in which it was heard.
 #![tactic(auto)]
 
+mod end;
 mod hearing;
 mod look;
 mod profile;
 mod text;
 
+pub use end::{End, Unmade};
 pub use hearing::Hearing;
 pub use look::Look;
 pub use profile::Profile;

@@ -60,7 +60,7 @@ fn text_of(
     status: &NodeStatus,
     hearing: &Hearing,
     look: Option<Look>,
-    ended: Option<Status>,
+    ended: Option<End>,
 ) -> Result<String, Fail> {
     let mut text = String::new(alloc);
     push_status(alloc, &mut text, &profile()?, status, hearing, look, ended)?;
@@ -86,12 +86,35 @@ fn tells_how_it_ended(rt: HostRuntime) -> Result<(), Fail> {
     let mut status = status(9000)?;
     status.failed_save = Some(8);
     status.last = None;
-    let ended = Some(Status::KeepFault);
+    let ended = Some(End {
+        status: Status::KeepFault,
+        unmade: None,
+    });
     let text = text_of(rt.alloc(), &status, &Hearing::new(5000), None, ended)?;
     let told = format!(in rt.alloc();
         "{FRONT}issues no 8\nreport none\nprefers none\nlost 0\nquorum 2\nheard 1\nheard 2\nsilent 3 5000\nended 7 xl.keep\n"
     )?;
     assert_eq!(rt; text.as_str(), told.as_str());
+    Ok(())
+}
+
+#[test]
+fn tells_what_the_hub_could_not_make(rt: HostRuntime) -> Result<(), Fail> {
+    let hearing = Hearing::new(5000);
+    let at_end = status(9000)?;
+    let member = NodeNo::new(3).ok_or("number")?;
+    for (status, unmade, line) in [
+        (Status::NetFault, Unmade::Link(member), "ended 8 peer 3\n"),
+        (Status::NetFault, Unmade::Door, "ended 8 submit_at\n"),
+        (Status::WriteFault, Unmade::Door, "ended 5\n"),
+    ] {
+        let ended = Some(End {
+            status,
+            unmade: Some(unmade),
+        });
+        let text = text_of(rt.alloc(), &at_end, &hearing, None, ended)?;
+        assert!(rt; text.as_str().ends_with(line));
+    }
     Ok(())
 }
 

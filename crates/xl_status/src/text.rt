@@ -14,6 +14,7 @@ ghost use Rattle.xl_status.specs.Texts.{
   member_lines,
   look_line,
   silent_line,
+  unmade_name,
   named_by,
   end_line,
   status_text,
@@ -21,7 +22,7 @@ ghost use Rattle.xl_status.specs.Texts.{
 };
 
 use crate::hearing::is_heard;
-use crate::{Hearing, Look, Profile};
+use crate::{End, Hearing, Look, Profile, Unmade};
 use std::alloc::Global;
 use std::fmt::Write;
 use xl_base::{LedgerId, Millis, NodeNo, OutOfMemory, Status};
@@ -36,7 +37,7 @@ pub fn push_status(
     status: &NodeStatus,
     hearing: &Hearing,
     look: Option<Look>,
-    ended: Option<Status>,
+    ended: Option<End>,
 ) -> Result<(), OutOfMemory>
     ensures { OnOk result (string_bytes text.new
         ≡ string_bytes text.old ++ status_text profile.now status.now hearing.now look ended) }
@@ -62,7 +63,11 @@ pub fn push_unopened(
     text.push_str("xl-status 1\n")?;
     push_profile(text, profile)?;
     push_number(text, "moment", moment)?;
-    push_end(text, Some(ended))
+    let end = End {
+        status: ended,
+        unmade: None,
+    };
+    push_end(text, Some(end))
 }
 
 #[tactic(auto, unfolding(crate::specs::Texts::profile_lines))]
@@ -204,43 +209,75 @@ fn push_look(text: &mut String, look: Option<Look>) -> Result<(), OutOfMemory>
     Ok(())
 }
 
-/// It runs, or has ended with this exit status.
-fn push_end(text: &mut String, ended: Option<Status>) -> Result<(), OutOfMemory>
+/// It runs, or has ended so.
+fn push_end(text: &mut String, ended: Option<End>) -> Result<(), OutOfMemory>
     ensures { OnOk result (string_bytes text.new ≡ string_bytes text.old ++ end_line ended) }
 {
     match ended {
         None => text.push_str("runs\n")?,
-        Some(status) => push_cause(text, status)?,
+        Some(end) => push_cause(text, end)?,
     }
     Ok(())
 }
 
 /// With which exit status it ended, and what that names.
-fn push_cause(text: &mut String, status: Status) -> Result<(), OutOfMemory>
-    ensures { OnOk result (string_bytes text.new ≡ string_bytes text.old ++ end_line (Some status)) }
+fn push_cause(text: &mut String, end: End) -> Result<(), OutOfMemory>
+    ensures { OnOk result (string_bytes text.new ≡ string_bytes text.old ++ end_line (Some end)) }
 {
-    let code = status.code();
-    let name = named_by(status);
-    write!(text, "ended {code}{name}\n")?;
+    let code = end.status.code();
+    write!(text, "ended {code}")?;
+    push_name(text, end)?;
+    text.push_str("\n")?;
     Ok(())
 }
 
 /// What an end names, behind a space.
-fn named_by(status: Status) -> &'static str
-    ensures { result.now ≡ named_by status }
+fn push_name(text: &mut String, end: End) -> Result<(), OutOfMemory>
+    ensures { OnOk result (string_bytes text.new
+        ≡ string_bytes text.old ++ named_by end.status end.unmade) }
 {
-    match status {
-        Status::Done => " run_ms",
-        Status::KeepFault => " xl.keep",
-        Status::NetFault => " peer",
-        Status::StoreFull => " turns",
+    match end.status {
+        Status::Done => text.push_str(" run_ms")?,
+        Status::KeepFault => text.push_str(" xl.keep")?,
+        Status::NetFault => push_unmade(text, end.unmade)?,
+        Status::StoreFull => text.push_str(" turns")?,
         Status::Fork
         | Status::WordsRefused
         | Status::InputRefused
         | Status::ReadFault
         | Status::WriteFault
-        | Status::OutOfMemory => "",
+        | Status::OutOfMemory => {}
     }
+    Ok(())
+}
+
+/// What the hub couldn't make, if that is known.
+fn push_unmade(text: &mut String, unmade: Option<Unmade>) -> Result<(), OutOfMemory>
+    ensures { OnOk result (string_bytes text.new ≡ string_bytes text.old ++ unmade_name unmade) }
+{
+    match unmade {
+        None => Ok(()),
+        Some(unmade) => push_place(text, unmade),
+    }
+}
+
+/// The key of the address, and for a link the member.
+fn push_place(text: &mut String, unmade: Unmade) -> Result<(), OutOfMemory>
+    ensures { OnOk result (string_bytes text.new ≡ string_bytes text.old ++ unmade_name (Some unmade)) }
+{
+    match unmade {
+        Unmade::Link(member) => push_peer(text, member)?,
+        Unmade::Door => text.push_str(" submit_at")?,
+    }
+    Ok(())
+}
+
+fn push_peer(text: &mut String, member: NodeNo) -> Result<(), OutOfMemory>
+    ensures { OnOk result (string_bytes text.new ≡ string_bytes text.old ++ codes " peer " ++ decimal member) }
+{
+    let number = member.get();
+    write!(text, " peer {number}")?;
+    Ok(())
 }
 
 /// A line of a word and a number.

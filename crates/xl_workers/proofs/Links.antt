@@ -10,7 +10,7 @@ use Rattle.xl_links.specs.Ways.{Target}
 use Rattle.xl_peers.proofs.Growing.{tells_nothing, tells_both}
 use Rattle.xl_workers.specs.declared.plan.Contact.{Contact}
 use Rattle.xl_workers.specs.declared.linking.Peer.{Peer}
-use Rattle.xl_workers.specs.Linking.{contact_of, member_of, member_in, target_of, HubSeen, hub_seen, AsksLinks, IsAsTold, AreLinked}
+use Rattle.xl_workers.specs.Linking.{contact_of, member_of, member_in, target_of, HubSeen, hub_seen, AsksLinks, AsksLinksTo, IsAsTold, AreLinked}
 use Rattle.xl_workers.proofs.Pairs.{all_more}
 
 -- the targets of contacts have their members
@@ -40,11 +40,18 @@ pub asks_all : (old now : Option (List Target)) (all : List Contact) → AsksSom
 asks_all old now all s =
     subst (λ (l : List Target). AddsTold old now l) (sym (append-nil s.done) ∙ s.parts) s.asked
 
-pub asks_front : (old_faults now_faults : ℕ) (old now : Requests) (all rest : List Contact)
-    → AsksSome old.links now.links all rest
-    → AsksLinks (hub_seen old_faults old) (map target_of all) (hub_seen now_faults now)
-asks_front old_faults now_faults old now all rest s =
-    record { front = s.done; first = (map target_of rest, s.parts); asked = s.asked }
+-- the last that it was asked for is the link to this contact
+pub asks_to : (old_faults now_faults : ℕ) (old before now : Requests) (all rest : List Contact) (contact : Contact) (member : ℕ)
+    → contact_of contact ≡ member
+    → AsksSome old.links before.links all (contact ∷ rest) → AddsTold before.links now.links (target_of contact ∷ [])
+    → AsksLinksTo (hub_seen old_faults old) (map target_of all) member (hub_seen now_faults now)
+asks_to old_faults now_faults old before now all rest contact member same s more = record {
+  earlier = s.done;
+  last = target_of contact;
+  to = same;
+  first = (map target_of rest, append_assoc s.done (target_of contact ∷ []) (map target_of rest) ∙ s.parts);
+  asked = tells_both old.links before.links now.links s.done (target_of contact ∷ []) s.asked more;
+}
 
 -- all links of a plan begin with all of them
 pub all_front : (old new : HubSeen) (targets : List Target) → AddsTold old.asked.links new.asked.links targets

@@ -1,5 +1,5 @@
 -- A run, as its parts say it.
-use Rattle.std.proofs.Common.{◌≡◌, ◌≤◌, ◌⊎◌, ℕ, Option, List, [], ◌∷◌, ◌++◌, length, length-append, map, refl, sym, ap, ◌∙◌, arith}
+use Rattle.std.proofs.Common.{◌≡◌, ◌≤◌, ℕ, Option, List, [], ◌∷◌, ◌++◌, length, length-append, map, refl, sym, ap, ◌∙◌, arith}
 use mathlib.Core.List.{IsPrefix}
 use Rattle.xl_base.specs.Faults.{Rose}
 use Rattle.xl_base.specs.declared.ids.TxId.{TxId}
@@ -23,11 +23,13 @@ use Rattle.xl_heartbeat.specs.Outputs.{Output}
 use Rattle.xl_heartbeat.specs.Beats.{taking_calls, TakesReports}
 use Rattle.xl_workers.specs.declared.ends.RunEnd.{RunEnd}
 use Rattle.xl_workers.specs.declared.ends.RunEnd.TheVariants as end
-use Rattle.xl_workers.specs.Linking.{HubSeen, AsksAll, AsksNoDoor, member_in}
+use Rattle.xl_workers.specs.declared.linking.NoLinks.{NoLinks}
+use Rattle.xl_workers.specs.declared.linking.NoLinks.TheVariants as unlinked
+use Rattle.xl_workers.specs.Linking.{HubSeen, AsksAll, AsksNoDoor, AsksUpToDoor, IsUnlinked, member_in}
 use Rattle.xl_workers.specs.Submits.{Submitted, SubmittedFront}
 use Rattle.xl_workers.specs.Sharing.{Setting, SharedOut, SubmitPart}
 use Rattle.xl_workers.specs.Runs.{Doing, doing_of}
-use Rattle.xl_workers.specs.Working.{Closes, Worked, TookLast, Lives, Lived, end_of}
+use Rattle.xl_workers.specs.Working.{Closes, Worked, TookLast, Lives, Lived, end_of, end_without}
 use Rattle.xl_workers.proofs.Links.{none_front}
 use Rattle.xl_workers.proofs.Shared.{stands, full_longer}
 use Rattle.xl_workers.proofs.Outcomes.{outputs}
@@ -121,12 +123,24 @@ module _ (s : Setting) where
     by = λ history close all. (prefix_all d.ids, record { all = all; silent = silent });
   }
 
-  -- nothing ran, since the hub failed
-  pub lives_unlinked : (d : Doing) (k : Knowledge Entry) → k.share ≡ all_shares → d.new_output ≡ d.old_output
-      → AsksNoDoor d.old_hub d.targets d.new_hub ⊎ AsksAll d.old_hub d.targets d.door d.new_hub
-      → Rose d.old_hub.faults d.new_hub.faults
-      → Lives s d d.ids end.NetFault k k
-  lives_unlinked d k share silent asked rose = record {
+  -- nothing ran, since there aren't all links
+  pub lives_unlinked : (d : Doing) (k : Knowledge Entry) (why : NoLinks) → k.share ≡ all_shares → d.new_output ≡ d.old_output
+      → IsUnlinked d.old_hub d.targets d.new_hub why → d.new_hub.asked.doors ≡ d.old_hub.asked.doors
+      → Lives s d d.ids (end_without why) k k
+  lives_unlinked d k unlinked.OutOfMemory share silent is doors =
+      lives_none d k share silent (record { links = is; doors = doors })
+  lives_unlinked d k (unlinked.LinkFault member) share silent is doors = record {
+    asked = record { links = is.0; doors = doors };
+    share = share;
+    begins = prefix_all k.seen;
+    by = λ history close all. (refl, record { all = all; silent = silent }, is.1);
+  }
+
+  -- nothing ran, since the hub couldn't make the door
+  pub lives_doorless : (d : Doing) (k : Knowledge Entry) → k.share ≡ all_shares → d.new_output ≡ d.old_output
+      → AsksUpToDoor d.old_hub d.targets d.door d.new_hub → Rose d.old_hub.faults d.new_hub.faults
+      → Lives s d d.ids end.DoorFault k k
+  lives_doorless d k share silent asked rose = record {
     asked = asked;
     share = share;
     begins = prefix_all k.seen;

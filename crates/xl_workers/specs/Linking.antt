@@ -1,14 +1,17 @@
 -- The links that a hub opens, one to each member, and its door. Source: this project's own.
-use Rattle.std.specs.Prelude.{◌≡◌, ℕ, List, [], ◌∷◌, map, IfSome, Some, None}
+use Rattle.std.specs.Prelude.{◌≡◌, ℕ, List, [], ◌∷◌, ◌++◌, map, IfSome, IsSome, Some, None}
 use mathlib.Core.List.{IsPrefix}
 use Rattle.std.specs.declared.option.Option.{Option}
 use Rattle.std.specs.List.{AllByRecursion}
+use Rattle.xl_base.specs.Faults.{Rose}
 use Rattle.xl_links.specs.Doors.{Doorway}
 use Rattle.xl_links.specs.Links.{Wire}
 use Rattle.xl_links.specs.Requests.{Requests}
 use Rattle.xl_links.specs.Tellings.{AddsTold}
 use Rattle.xl_links.specs.Ways.{Target, target}
 use Rattle.xl_workers.specs.declared.plan.Contact.{Contact}
+use Rattle.xl_workers.specs.declared.linking.NoLinks.{NoLinks}
+use Rattle.xl_workers.specs.declared.linking.NoLinks.TheVariants.{LinkFault, OutOfMemory}
 use Rattle.xl_workers.specs.declared.linking.Peer.{Peer}
 
 abbrev pub contact_of : Contact → ℕ
@@ -35,6 +38,19 @@ pub record AsksLinks (old : HubSeen) (all : List Target) (new : HubSeen) : Type 
   pub first : IsPrefix front all
   pub asked : AddsTold old.asked.links new.asked.links front
 
+-- it was asked for the first of these links, in order, of which the last is to this member
+pub record AsksLinksTo (old : HubSeen) (all : List Target) (member : ℕ) (new : HubSeen) : Type 0 where
+  pub earlier : List Target
+  pub last : Target
+  pub to : member_in last ≡ member
+  pub first : IsPrefix (earlier ++ last ∷ []) all
+  pub asked : AddsTold old.asked.links new.asked.links (earlier ++ last ∷ [])
+
+-- why not every link was opened: the hub couldn't make the last one that it was asked for, or memory ran out
+abbrev pub IsUnlinked : HubSeen → List Target → HubSeen → NoLinks → Type 0
+IsUnlinked old all new (LinkFault member) = AsksLinksTo old all member new × Rose old.faults new.faults
+IsUnlinked old all new OutOfMemory = AsksLinks old all new
+
 -- it was asked for a door at this address, or for none
 abbrev pub IsDoorAsked : Option (List ℕ) → Option (List (List ℕ)) → Option (List (List ℕ)) → Type 0
 IsDoorAsked None old new = new ≡ old
@@ -45,10 +61,19 @@ pub record AsksNoDoor (old : HubSeen) (all : List Target) (new : HubSeen) : Type
   pub links : AsksLinks old all new
   pub doors : new.asked.doors ≡ old.asked.doors
 
+-- it was asked for the links up to one to this member, and for no door
+pub record AsksUpTo (old : HubSeen) (all : List Target) (member : ℕ) (new : HubSeen) : Type 0 where
+  pub links : AsksLinksTo old all member new
+  pub doors : new.asked.doors ≡ old.asked.doors
+
 -- it was asked for all of these links, and for the door, if there is an address
 pub record AsksAll (old : HubSeen) (all : List Target) (address : Option (List ℕ)) (new : HubSeen) : Type 0 where
   pub links : AddsTold old.asked.links new.asked.links all
   pub doors : IsDoorAsked address old.asked.doors new.asked.doors
+
+-- it was asked for all of these links and then for the door, which there is
+abbrev pub AsksUpToDoor : HubSeen → List Target → Option (List ℕ) → HubSeen → Type 0
+AsksUpToDoor old all address new = IsSome address × AsksAll old all address new
 
 module _ {L : Type 0} where
   abbrev pub member_of : Peer L → ℕ

@@ -1,5 +1,5 @@
 -- A whole run of a node. Source: this project's own.
-use Rattle.std.specs.Prelude.{◌≡◌, ◌⊎◌, ℕ, Option, List, [], ◌∷◌, ◌++◌, length, map}
+use Rattle.std.specs.Prelude.{◌≡◌, ℕ, Option, List, [], ◌∷◌, ◌++◌, length, map}
 use mathlib.Core.List.{IsPrefix}
 use Rattle.xl_base.specs.Faults.{Rose}
 use Rattle.xl_base.specs.declared.ids.TxId.{TxId}
@@ -13,13 +13,14 @@ use Rattle.xl_heartbeat.specs.Outputs.{Output}
 use Rattle.xl_heartbeat.specs.Statuses.{status_of_run}
 use Rattle.xl_workers.specs.declared.ends.RunEnd.{RunEnd}
 use Rattle.xl_workers.specs.declared.ends.RunEnd.TheVariants as end
-use Rattle.xl_workers.specs.Linking.{HubSeen, AsksAll, AsksNoDoor, member_in}
+use Rattle.xl_workers.specs.Linking.{HubSeen, AsksAll, AsksNoDoor, AsksUpTo, AsksUpToDoor, member_in}
 use Rattle.xl_workers.specs.Sharing.{Setting, SubmitPart, SharedOut}
 
 -- the status that a run ends with
 abbrev pub status_of_end : RunEnd → Status
 status_of_end (end.Ran beats last) = status_of_run beats last
-status_of_end end.NetFault = status.NetFault
+status_of_end (end.LinkFault member) = status.NetFault
+status_of_end end.DoorFault = status.NetFault
 status_of_end end.OutOfMemory = status.OutOfMemory
 status_of_end end.TooFewThreads = status.OutOfMemory
 status_of_end (end.StoreFull n) = status.StoreFull
@@ -57,14 +58,22 @@ abbrev pub IsLess : List TxId → List TxId → Type 0
 IsLess done ids = (next : TxId) × (rest : List TxId) × (ids ≡ done ++ next ∷ rest)
 
 -- What the hub was asked for: all links and the door if the workers ran, and nothing if there were too few threads or a
--- submit had no turn. If memory ran out it was the first of the links, and if the hub failed it was either
+-- submit had no turn. If memory ran out it was the first of the links. If the hub failed, what it was asked for last is
+-- what it couldn't make
 abbrev pub IsAsked : Doing → RunEnd → Type 0
 IsAsked d (end.Ran beats last) = AsksAll d.old_hub d.targets d.door d.new_hub
-IsAsked d end.NetFault =
-    AsksNoDoor d.old_hub d.targets d.new_hub ⊎ AsksAll d.old_hub d.targets d.door d.new_hub
+IsAsked d (end.LinkFault member) = AsksUpTo d.old_hub d.targets member d.new_hub
+IsAsked d end.DoorFault = AsksUpToDoor d.old_hub d.targets d.door d.new_hub
 IsAsked d end.OutOfMemory = AsksNoDoor d.old_hub d.targets d.new_hub
 IsAsked d end.TooFewThreads = d.new_hub.asked ≡ d.old_hub.asked
 IsAsked d (end.StoreFull n) = d.new_hub.asked ≡ d.old_hub.asked
+
+-- the hub failed after all submits, which have all places
+abbrev pub EndsUnmade : Doing → List Entry → List TxId → List ℕ → Type 0
+EndsUnmade d history done submits =
+    (done ≡ d.ids)
+    × NoMore d history submits
+    × Rose d.old_hub.faults d.new_hub.faults
 
 -- What each end says. If the workers ran, all ids were submitted and the other places are shared out. Else the
 -- submits have all places: the hub failed after all of them, memory ran out, or all turns of the store were drawn. If
@@ -73,10 +82,8 @@ abbrev pub EndsBy : Setting → Doing → List Entry → List TxId → List ℕ 
 EndsBy s d history done submits (end.Ran beats last) =
     (done ≡ d.ids)
     × SharedOut s d.pulse d.door (map member_in d.targets) history submits beats last d.old_output d.new_output
-EndsBy s d history done submits end.NetFault =
-    (done ≡ d.ids)
-    × NoMore d history submits
-    × Rose d.old_hub.faults d.new_hub.faults
+EndsBy s d history done submits (end.LinkFault member) = EndsUnmade d history done submits
+EndsBy s d history done submits end.DoorFault = EndsUnmade d history done submits
 EndsBy s d history done submits end.OutOfMemory = IsPrefix done d.ids × NoMore d history submits
 EndsBy s d history done submits end.TooFewThreads = (history ≡ []) × NoMore d history submits
 EndsBy s d history done submits (end.StoreFull n) =

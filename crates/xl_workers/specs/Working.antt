@@ -26,6 +26,8 @@ use Rattle.xl_heartbeat.specs.Outputs.{Output, IsWritten}
 use Rattle.xl_heartbeat.specs.Beats.{IsFull, lines_of, taking_calls}
 use Rattle.xl_workers.specs.declared.ends.RunEnd.{RunEnd}
 use Rattle.xl_workers.specs.declared.ends.RunEnd.TheVariants as end
+use Rattle.xl_workers.specs.declared.linking.NoLinks.{NoLinks}
+use Rattle.xl_workers.specs.declared.linking.NoLinks.TheVariants as unlinked
 use Rattle.xl_workers.specs.declared.worker.Worker.{Worker}
 use Rattle.xl_workers.specs.Pairing.{Paired, total}
 use Rattle.xl_workers.specs.Serving.{share_of, IsFresh}
@@ -106,3 +108,8 @@ RecordsAll records retention turns k old new =
 abbrev pub end_of : StoreEnd → RunEnd
 end_of refused.OutOfMemory = end.OutOfMemory
 end_of (refused.StoreFull n) = end.StoreFull n
+
+-- how a run ends that has no links
+abbrev pub end_without : NoLinks → RunEnd
+end_without (unlinked.LinkFault member) = end.LinkFault member
+end_without unlinked.OutOfMemory = end.OutOfMemory

@@ -1,7 +1,7 @@
 ghost use Rattle.std.specs.Prelude.{◌≡◌};
 ghost use Rattle.xl_workers.specs.Runs.{status_of_end};
 
-use xl_base::Status;
+use xl_base::{NodeNo, Status};
 use xl_heartbeat::{BeatEnd, Ending, status_of_run};
 
 /// How a run ended.
@@ -9,8 +9,12 @@ use xl_heartbeat::{BeatEnd, Ending, status_of_run};
 pub enum RunEnd {
     /// The heartbeat and the workers ran. The heartbeat ended so, and then the last reports did.
     Ran { beats: BeatEnd, last: Ending },
-    /// The hub could not make a link or the door: its count of faults rose. Nothing but the submits happened at the core.
-    NetFault,
+    /// The hub could not make the link to this member: its count of faults rose. Nothing but the submits happened at the
+    /// core, and no door was opened.
+    LinkFault(NodeNo),
+    /// The hub made all links and could not make the door: its count of faults rose. Nothing but the submits happened at
+    /// the core.
+    DoorFault,
     /// Memory ran out before the heartbeat and the workers ran. No door was opened.
     OutOfMemory,
     /// A thread for each member, one for the door if there is one, and one more couldn't be started. Nothing happened at
@@ -27,7 +31,7 @@ impl RunEnd {
     {
         match self {
             RunEnd::Ran { beats, last } => status_of_run(beats, last),
-            RunEnd::NetFault => Status::NetFault,
+            RunEnd::LinkFault(_) | RunEnd::DoorFault => Status::NetFault,
             RunEnd::OutOfMemory | RunEnd::TooFewThreads => Status::OutOfMemory,
             RunEnd::StoreFull(_) => Status::StoreFull,
         }

@@ -1,8 +1,8 @@
-ghost use Rattle.std.specs.Prelude.{◌≡◌, ◌≤◌, nat_eq, map, IfOk, IfErr, OnOk, OnErr};
+ghost use Rattle.std.specs.Prelude.{◌≡◌, ◌≤◌, nat_eq, map, IfOk, IfErr, IsSome, OnOk, OnErr};
 ghost use Rattle.std.specs.List.{IsDistinct};
 ghost use Rattle.xl_base.specs.Faults.{Rose};
 ghost use Rattle.xl_links.specs.Tellings.{AddsTold};
-ghost use Rattle.xl_workers.specs.Linking.{contact_of, hub_seen, target_of, AreLinked, AsksLinks, IsDoor, IsDoorAsked};
+ghost use Rattle.xl_workers.specs.Linking.{contact_of, hub_seen, target_of, AreLinked, IsDoor, IsDoorAsked, IsUnlinked};
 
 use crate::plan::Contact;
 use std::alloc::Global;
@@ -20,8 +20,8 @@ pub struct Peer<L> {
 /// Why not every link was opened.
 #[derive(Clone, Copy, PartialEq, Eq)]
 pub(crate) enum NoLinks {
-    /// The hub's count of faults rose.
-    NetFault,
+    /// The hub couldn't make the link to this member: its count of faults rose.
+    LinkFault(NodeNo),
     OutOfMemory,
 }
 
@@ -37,10 +37,9 @@ pub(crate) fn open_links<H: Hub>(
     ensures asked { OnOk result (AddsTold (H.asked hub.old).links (H.asked hub.new).links (map target_of contacts.items)) }
     ensures door { (H.gives hub.new).door ≡ (H.gives hub.old).door }
     ensures doors { (H.asked hub.new).doors ≡ (H.asked hub.old).doors }
-    ensures front { OnErr result (AsksLinks (hub_seen (H.faults hub.old) (H.asked hub.old)) (map target_of contacts.items)
-        (hub_seen (H.faults hub.new) (H.asked hub.new))) }
     ensures later { H.faults hub.old ≤ H.faults hub.new }
-    ensures failed { IfErr result (λ why. why ≡ NoLinks.NetFault → Rose (H.faults hub.old) (H.faults hub.new)) }
+    ensures unlinked { IfErr result (IsUnlinked (hub_seen (H.faults hub.old) (H.asked hub.old)) (map target_of contacts.items)
+        (hub_seen (H.faults hub.new) (H.asked hub.new))) }
 {
     let Ok(mut peers) = Vec::with_capacity(alloc, contacts.len()) else {
         return Err(NoLinks::OutOfMemory);
@@ -50,7 +49,7 @@ pub(crate) fn open_links<H: Hub>(
         let Contact { member, way } = rest.remove(0);
         match hub.open_link(member, way) {
             Ok(link) => peers.push_reserved(Peer { member, link }),
-            Err(_) => return Err(NoLinks::NetFault),
+            Err(_) => return Err(NoLinks::LinkFault(member)),
         }
     }
     Ok(peers)
@@ -61,6 +60,7 @@ pub(crate) fn open_door<H: Hub>(hub: &mut H, address: Option<Bytes>) -> Result<O
     ensures opened { IfOk result (λ door. IsDoor (H.gives hub.old).door H.D.Door.shows address door) }
     ensures asked { IsDoorAsked address (H.asked hub.old).doors (H.asked hub.new).doors }
     ensures links { (H.asked hub.new).links ≡ (H.asked hub.old).links }
+    ensures named { OnErr result (IsSome address) }
     ensures later { H.faults hub.old ≤ H.faults hub.new }
     ensures failed { OnErr result (Rose (H.faults hub.old) (H.faults hub.new)) }
 {

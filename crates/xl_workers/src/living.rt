@@ -10,7 +10,7 @@ ghost use Rattle.xl_heartbeat.specs.Recording.{Recorded};
 ghost use Rattle.xl_workers.specs.Linking.{contact_of, target_of, hub_seen};
 ghost use Rattle.xl_workers.specs.Sharing.{setting};
 ghost use Rattle.xl_workers.specs.Runs.{doing_of};
-ghost use Rattle.xl_workers.specs.Working.{TookLast, Lived, RecordsAll, end_of};
+ghost use Rattle.xl_workers.specs.Working.{TookLast, Lived, RecordsAll, end_of, end_without};
 
 use crate::ends::RunEnd;
 use crate::hiring::hire_all;
@@ -65,6 +65,16 @@ fn end_of(end: StoreEnd) -> RunEnd
     match end {
         StoreEnd::OutOfMemory => RunEnd::OutOfMemory,
         StoreEnd::StoreFull(limit) => RunEnd::StoreFull(limit),
+    }
+}
+
+/// How a run ends that has no links.
+fn end_without(why: NoLinks) -> RunEnd
+    ensures { result ≡ end_without why }
+{
+    match why {
+        NoLinks::LinkFault(member) => RunEnd::LinkFault(member),
+        NoLinks::OutOfMemory => RunEnd::OutOfMemory,
     }
 }
 
@@ -132,15 +142,14 @@ pub(crate) fn live<
     }
     let peers = match open_links(host.alloc, hub, contacts) {
         Ok(peers) => peers,
-        Err(NoLinks::NetFault) => return (RunEnd::NetFault, pass),
-        Err(NoLinks::OutOfMemory) => return (RunEnd::OutOfMemory, pass),
+        Err(why) => return (end_without(why), pass),
     };
     let Ok(room) = Vec::with_capacity(host.alloc, peers.len()) else {
         return (RunEnd::OutOfMemory, pass);
     };
     let door = match open_door(hub, door) {
         Ok(door) => door,
-        Err(_) => return (RunEnd::NetFault, pass),
+        Err(_) => return (RunEnd::DoorFault, pass),
     };
     let (first, mut heart) = store.split(pass);
     let (first, mut crew) = hire_all(store, first, peers, door, room);

@@ -1,7 +1,7 @@
 -- each part of the text is put behind what was there
-use Rattle.std.proofs.Common.{◌++◌, Some, codes}
+use Rattle.std.proofs.Common.{◌++◌, Some, None, codes}
 use Rattle.std.specs.String.{string_bytes}
-use Rattle.xl_status.specs.Texts.{profile_lines, number_line, end_line}
+use Rattle.xl_status.specs.Texts.{profile_lines, number_line, end_at, end_line}
 use Rattle.xl_status.proofs.Parts.{behind, on_ok}
 use Rattle.xl_status.proofs.text.push_unopened.Goals as goal
 
@@ -10,7 +10,7 @@ returns c =
     let head = codes "xl-status 1\n" in
     let profile = profile_lines c.args.profile.now in
     let moment = number_line (codes "moment") c.args.moment in
-    let end = end_line (Some c.args.ended) in
+    let end = end_line (Some (end_at c.args.ended None)) in
     let old = string_bytes c.args.text.now in
     let first = string_bytes c.push_str.new.self in
     let second = string_bytes c.push_profile.new.text in

@@ -5,7 +5,7 @@ use Rattle.std.proofs.lemmas.Bool.{eqb-true}
 use Rattle.xl_workers.specs.declared.plan.Contact.{Contact}
 use Rattle.xl_workers.specs.declared.linking.Peer.{Peer}
 use Rattle.xl_workers.proofs.Pairs.{first_off}
-use Rattle.xl_workers.proofs.Links.{AsksSome, SomeLinked, asks_none, asks_more, asks_all, asks_front, none_front}
+use Rattle.xl_workers.proofs.Links.{AsksSome, SomeLinked, asks_none, asks_more, asks_all, asks_to, none_front}
 use Rattle.xl_workers.proofs.Links.{linked_none, linked_more, linked_all}
 use Rattle.xl_workers.specs.Linking.{hub_seen, target_of}
 use Rattle.xl_workers.proofs.linking.open_links.Goals as goal
@@ -73,26 +73,28 @@ returns g c =
           none c.loop-rest.invariant.asked);
       door = c.loop-rest.invariant.door;
       doors = c.loop-rest.invariant.doors;
-      front = tt;
       later = c.loop-rest.invariant.later;
-      failed = tt;
+      unlinked = tt;
     }
 
-pub returns-in_default-clause-front : goal.returns-in_default-clause-front
-returns-in_default-clause-front g c =
+pub returns-in_default-clause-unlinked : goal.returns-in_default-clause-unlinked
+returns-in_default-clause-unlinked g c =
     let hub = hub_seen (g.H.Hub.faults c.args.hub.now) (g.H.Hub.asked c.args.hub.now) in
     none_front hub hub (map target_of c.args.contacts.items) refl
 
-pub returns-in-Err-clause-front : goal.returns-in-Err-clause-front
-returns-in-Err-clause-front g c =
+pub returns-in-Err-clause-unlinked : goal.returns-in-Err-clause-unlinked
+returns-in-Err-clause-unlinked g c =
     let all = c.args.contacts.items in
     let some_left : 0 < length c.loop-rest.rest.items = omega
     (arith, c.loop-rest.rest.ok.0, c.remove-member.ensures.len) in
     let off = first_off c.loop-rest.rest.items c.remove-member.new.self.items c.remove-member.result some_left
     c.remove-member.ensures.value c.remove-member.ensures.items in
-    asks_front (g.H.Hub.faults c.args.hub.now) (g.H.Hub.faults c.open_link.new.self) (g.H.Hub.asked c.args.hub.now)
-    (g.H.Hub.asked c.open_link.new.self) all c.remove-member.new.self.items
-    (asks_more (g.H.Hub.asked c.args.hub.now).links (g.H.Hub.asked c.loop-rest.hub).links
-    (g.H.Hub.asked c.open_link.new.self).links all c.remove-member.new.self.items c.remove-member.result
-    (subst (λ (l : List Contact). AsksSome (g.H.Hub.asked c.args.hub.now).links (g.H.Hub.asked c.loop-rest.hub).links all l) off
-    c.loop-rest.invariant.asked) c.open_link.ensures.asked)
+    let earlier = c.loop-rest.invariant.later in
+    let failed = c.in-Err.ensures.failed in (
+      asks_to (g.H.Hub.faults c.args.hub.now) (g.H.Hub.faults c.open_link.new.self) (g.H.Hub.asked c.args.hub.now)
+          (g.H.Hub.asked c.loop-rest.hub) (g.H.Hub.asked c.open_link.new.self) all c.remove-member.new.self.items
+          c.remove-member.result c.remove-member.result.member refl
+          (subst (λ (l : List Contact). AsksSome (g.H.Hub.asked c.args.hub.now).links (g.H.Hub.asked c.loop-rest.hub).links all l)
+          off c.loop-rest.invariant.asked) c.open_link.ensures.asked,
+      omega (arith, earlier, failed),
+    )

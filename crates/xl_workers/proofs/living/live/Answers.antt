@@ -1,6 +1,6 @@
 -- the pass begins with nothing known, and if there are too few threads it ends so; all ids are submitted before the links,
 -- or one has no turn; and the joined pass has seen all that the heartbeat and each worker had
-use Rattle.std.proofs.Common.{◌≡◌, ◌≤◌, ◌^◌, ℕ, Option, List, length, map, refl, sym, ap, ◌∙◌, subst, arith, inl, inr}
+use Rattle.std.proofs.Common.{◌≡◌, ◌≤◌, ◌^◌, ℕ, Option, List, length, map, refl, sym, ap, ◌∙◌, subst, arith}
 use Rattle.std.proofs.lemmas.List.{length-map}
 use Rattle.std.specs.Prelude.{IsSome}
 use Rattle.std.specs.List.{AllByRecursion}
@@ -23,12 +23,12 @@ use Rattle.xl_workers.specs.Serving.{IsReady}
 use Rattle.xl_workers.specs.Submits.{Submitted, SubmittedFront}
 use Rattle.xl_workers.specs.Sharing.{setting}
 use Rattle.xl_workers.specs.Runs.{doing_of}
-use Rattle.xl_workers.specs.Working.{Worked, Lived}
+use Rattle.xl_workers.specs.Working.{Worked, Lived, end_without}
 use Rattle.xl_workers.proofs.Pairs.{all_of_map, index_all}
 use Rattle.xl_workers.proofs.Links.{same_members, all_front}
 use Rattle.xl_workers.proofs.Starts.{enough_left, are_all, same_peers, same_mine, same_seen, worked_from}
 use Rattle.xl_workers.proofs.Shared.{Joined, all_his, worked}
-use Rattle.xl_workers.proofs.Lives.{lived, lived_unstarted, lived_front, lives_ran, lives_none, lives_unlinked, still_whole}
+use Rattle.xl_workers.proofs.Lives.{lived, lived_unstarted, lived_front, lives_ran, lives_doorless, lives_none, lives_unlinked, still_whole}
 use Rattle.xl_workers.proofs.Recordings.{nothing_recorded, submits_recorded, still_quiet, all_recorded}
 use Rattle.xl_workers.proofs.living.live.Goals as goal
 use Rattle.xl_workers.proofs.living.live.Goals.{After-drop-submits-2}
@@ -93,8 +93,8 @@ returns-in-Err-clause-lived g c =
     subst (λ (e : RunEnd). Lived s d e mid) (sym c.end_of.ensures)
     (lived_front s d old mid c.in-Err.end c.requires.new refl refl front)
 
-pub returns-in-Err-NetFault-clause-lived : goal.returns-in-Err-NetFault-clause-lived
-returns-in-Err-NetFault-clause-lived g c =
+pub returns-in-Err-open_links-clause-lived : goal.returns-in-Err-open_links-clause-lived
+returns-in-Err-open_links-clause-lived g c =
     let s = setting (start_of c.args.store.now) (turns_of c.args.store.now)
     (g.C.Clock.may_give c.args.host.now.clock.now) (g.H.Hub.gives c.args.hub.now) in
     let ids : List TxId = c.args.plan.submits.items in
@@ -107,28 +107,10 @@ returns-in-Err-NetFault-clause-lived g c =
     let share = still_whole s ids old mid c.requires.new sub in
     let o = output (g.O.Sink.held c.args.sink.now) (g.O.Sink.faults c.args.sink.now) in
     let d = doing_of ids targets c.args.plan.door c.args.plan.pulse old_hub new_hub o o in
-    lived s d old mid mid end.NetFault c.requires.new sub
-    (lives_unlinked s d mid share refl
-    (inl (record { links = c.in-Err-NetFault.ensures.front; doors = c.in-Err-NetFault.ensures.doors }))
-    (c.in-Err-NetFault.ensures.failed c.in-Err-NetFault.field-0-is))
-
-pub returns-in-Err-OutOfMemory-clause-lived : goal.returns-in-Err-OutOfMemory-clause-lived
-returns-in-Err-OutOfMemory-clause-lived g c =
-    let s = setting (start_of c.args.store.now) (turns_of c.args.store.now)
-    (g.C.Clock.may_give c.args.host.now.clock.now) (g.H.Hub.gives c.args.hub.now) in
-    let ids : List TxId = c.args.plan.submits.items in
-    let targets = map target_of c.args.plan.contacts.items in
-    let old_hub = hub_seen (g.H.Hub.faults c.args.hub.now) (g.H.Hub.asked c.args.hub.now) in
-    let new_hub = hub_seen (g.H.Hub.faults c.open_links.new.hub) (g.H.Hub.asked c.open_links.new.hub) in
-    let old = known c.args.pass in
-    let mid = known c.submit_all.new.pass in
-    let sub = subst (λ (l : List TxId). Submitted s.start s.may_give old l mid) c.deref.ensures.value c.in-Ok.ensures.all in
-    let share = still_whole s ids old mid c.requires.new sub in
-    let o = output (g.O.Sink.held c.args.sink.now) (g.O.Sink.faults c.args.sink.now) in
-    let d = doing_of ids targets c.args.plan.door c.args.plan.pulse old_hub new_hub o o in
-    lived s d old mid mid end.OutOfMemory c.requires.new sub
-    (lives_none s d mid share refl
-    (record { links = c.in-Err-OutOfMemory.ensures.front; doors = c.in-Err-OutOfMemory.ensures.doors }))
+    let why = c.in-Err-open_links.why in
+    subst (λ (e : RunEnd). Lived s d e mid) (sym c.end_without.ensures)
+    (lived s d old mid mid (end_without why) c.requires.new sub
+    (lives_unlinked s d mid why share refl c.in-Err-open_links.ensures.unlinked c.in-Err-open_links.ensures.doors))
 
 pub returns-in_default-clause-lived : goal.returns-in_default-clause-lived
 returns-in_default-clause-lived g c =
@@ -173,8 +155,8 @@ returns-in-Err-open_door-clause-lived g c =
     c.in-Ok-open_links.ensures.doors c.in-Err-open_door.ensures.asked in
     let earlier = c.in-Ok-open_links.ensures.later in
     let failed = c.in-Err-open_door.ensures.failed in
-    lived s d old mid mid end.NetFault c.requires.new sub
-    (lives_unlinked s d mid share refl (inr (record { links = links; doors = asked }))
+    lived s d old mid mid end.DoorFault c.requires.new sub
+    (lives_doorless s d mid share refl (c.in-Err-open_door.ensures.named, record { links = links; doors = asked })
     (omega (arith, earlier, failed)))
 
 pub run-beats-requires-clause-ready : goal.run-beats-requires-clause-ready
@@ -292,12 +274,8 @@ pub returns-in-Err-clause-told : goal.returns-in-Err-clause-told
 returns-in-Err-clause-told g c =
     untold g.D.Board.show_gives (start_of c.args.store.now) c.args.outlets.now.bulletin (known c.submit_all.new.pass).seen
 
-pub returns-in-Err-NetFault-clause-told : goal.returns-in-Err-NetFault-clause-told
-returns-in-Err-NetFault-clause-told g c =
-    untold g.D.Board.show_gives (start_of c.args.store.now) c.args.outlets.now.bulletin (known c.submit_all.new.pass).seen
-
-pub returns-in-Err-OutOfMemory-clause-told : goal.returns-in-Err-OutOfMemory-clause-told
-returns-in-Err-OutOfMemory-clause-told g c =
+pub returns-in-Err-open_links-clause-told : goal.returns-in-Err-open_links-clause-told
+returns-in-Err-open_links-clause-told g c =
     untold g.D.Board.show_gives (start_of c.args.store.now) c.args.outlets.now.bulletin (known c.submit_all.new.pass).seen
 
 pub returns-in-Err-open_door-clause-told : goal.returns-in-Err-open_door-clause-told
@@ -331,14 +309,8 @@ returns-in-Err-clause-recorded g c =
     (start_of c.args.store.now) (g.C.Clock.may_give c.args.host.now.clock.now) (known c.args.pass)
     (known c.submit_all.new.pass) _ c.args.outlets.now.recorder c.requires.new c.in-Err.ensures.front.submitted
 
-pub returns-in-Err-NetFault-clause-recorded : goal.returns-in-Err-NetFault-clause-recorded
-returns-in-Err-NetFault-clause-recorded g c =
-    submits_recorded g.R.Recorder.records (retention_of c.args.store.now) (turns_of c.args.store.now)
-    (start_of c.args.store.now) (g.C.Clock.may_give c.args.host.now.clock.now) (known c.args.pass)
-    (known c.submit_all.new.pass) _ c.args.outlets.now.recorder c.requires.new c.in-Ok.ensures.all
-
-pub returns-in-Err-OutOfMemory-clause-recorded : goal.returns-in-Err-OutOfMemory-clause-recorded
-returns-in-Err-OutOfMemory-clause-recorded g c =
+pub returns-in-Err-open_links-clause-recorded : goal.returns-in-Err-open_links-clause-recorded
+returns-in-Err-open_links-clause-recorded g c =
     submits_recorded g.R.Recorder.records (retention_of c.args.store.now) (turns_of c.args.store.now)
     (start_of c.args.store.now) (g.C.Clock.may_give c.args.host.now.clock.now) (known c.args.pass)
     (known c.submit_all.new.pass) _ c.args.outlets.now.recorder c.requires.new c.in-Ok.ensures.all
