@@ -1,5 +1,5 @@
 -- A line's step is its lead with the entry judged, and that entry meets the conditions of its core's call.
-use Rattle.std.proofs.Common.{◌≡◌, ℕ, Bool, true, false, cond, List, refl, Result, Ok, Err, Option, Some, None}
+use Rattle.std.proofs.Common.{◌≡◌, ℕ, Bool, true, false, cond, List, refl, ap, Result, Ok, Err, Option, Some, None}
 use Rattle.std.specs.Prelude.{codes}
 use Rattle.std.specs.Str.{bytes_eq}
 use Rattle.std.proofs.lemmas.Bool.{cond_both}
@@ -11,9 +11,11 @@ use Rattle.xl_audit.specs.declared.judging.BadLine.TheVariants.{Refused}
 use Rattle.xl_audit.specs.declared.judging.Stage.{Stage}
 use Rattle.xl_audit.specs.declared.judging.Stage.TheVariants.{Heading, Setting, Keying, Judging}
 use Rattle.xl_audit.specs.declared.opening.Opening.{Opening}
-use Rattle.xl_audit.specs.declared.tagging.Tagging.TheVariants.{Tagged}
+use Rattle.xl_audit.specs.declared.tagging.Tagging.TheVariants.{Tagged, Untagged}
+use Rattle.xl_audit.specs.declared.tagging.Tagging.{Tagging}
 use Rattle.xl_audit.specs.declared.written.Written.{Written}
 use Rattle.xl_audit.specs.Auditing.{Step, refuses, judgement, keyed, opening_step}
+use Rattle.xl_audit.specs.Cuts.{came_as, whole}
 use Rattle.xl_audit.specs.Leading.{Lead, leads, read_lead, entry_lead, opening_lead, lead, judged_lead, StepIsLed, IsAskedIn}
 use Rattle.xl_audit.specs.Opening.{core_of, key_in, unmet}
 use Rattle.xl_audit.specs.Reading.{entry_in}
@@ -51,6 +53,12 @@ step_is (Judging core entries) line =
     let words : List (List ℕ) = tokens line in
     either_is (bytes_eq (first words) (codes "key")) (refuses (Refused (Late (first words)))) _ _
     (read_is core entries (entry_in core.node.keys words))
+
+-- a line that has its newline leads to its step, in a journal with keys or without
+pub came_whole : (tagging : Tagging) (stage : Stage) (line : List ℕ)
+    → came_as tagging stage line true ≡ whole (judged_lead tagging (lead stage line))
+came_whole Tagged stage line = ap whole (step_is stage line)
+came_whole Untagged stage line = refl
 
 -- THE ENTRY
 

@@ -80,13 +80,9 @@ refusal_line why = spaced (decimal (code_of why)) (values_text why) (decimal_lin
 -- WHAT IS ANSWERED
 
 taken_line : (what : Taken) → is_line (taken_text what) ≡ true
-taken_line taken.Validation = refl
 taken_line (taken.Header id) = hex_line id.0
-taken_line taken.Position = refl
-taken_line taken.Later = refl
-taken_line taken.Gone = refl
 taken_line (taken.Set id) = hex_line id.0
-taken_line taken.Pending = refl
+taken_line other = refl
 
 issued_line : (how : Issued) → is_line (issued_text how) ≡ true
 issued_line issued.Full = refl

@@ -1,12 +1,12 @@
-// What a line leads to in a journal with keys or without.
+// What a line leads to, and whether the journal has keys then.
 ghost use Rattle.std.specs.Prelude.{◌≡◌, ◌+◌, ◌<◌, ◌≤◌, ◌^◌, IfOk, OnErr, OnOk, length};
-ghost use Rattle.xl_audit.specs.Cuts.{came_as, came_behind, peers_step, tagging_behind, untagged_came};
+ghost use Rattle.xl_audit.specs.Cuts.{came_as, came_behind, last_step, peers_step, tagging_behind};
 ghost use Rattle.xl_audit.specs.Judging.{IsReady, came_given, entries_of, step_given};
 ghost use Rattle.xl_audit.specs.Leading.{judged_lead, lead as lead_of};
 ghost use Rattle.xl_audit.specs.Limits.{most_bytes};
 
-use crate::judge::{come, lead};
-use crate::judging::{Came, Lead, Stage, Step, cut_last, ended, judge_untagged};
+use crate::judge::lead;
+use crate::judging::{Came, Lead, Stage, Step, cut_last, ended, judge_as, judge_last, refuse_last};
 use crate::peering::{names_peers, peered};
 use crate::tagging::Tagging;
 use crate::words::Words;
@@ -14,13 +14,18 @@ use std::alloc::Global;
 use std::mem;
 use xl_base::OutOfMemory;
 
-/// What the next line of a journal without keys leads to.
-fn next_untagged(alloc: Global, stage: &mut Stage, line: &[u8]) -> Result<Step, OutOfMemory>
+/// What the next line leads to.
+fn next(
+    alloc: Global,
+    tagging: Tagging,
+    stage: &mut Stage,
+    line: &[u8],
+) -> Result<Step, OutOfMemory>
     requires ready { IsReady stage.old }
     requires few { entries_of stage.old + 1 < 2 ^ 64 }
     requires short { length line.now ≤ most_bytes }
     ensures step { IfOk result (λ done. step_given done stage.new
-        ≡ judged_lead Tagging.Untagged (lead_of stage.old line.now)) }
+        ≡ judged_lead tagging (lead_of stage.old line.now)) }
     ensures ready { IsReady stage.new }
     ensures more { IfOk result (λ _. entries_of stage.new ≤ entries_of stage.old + 1) }
     ensures none { OnErr result (entries_of stage.new ≤ entries_of stage.old) }
@@ -28,34 +33,30 @@ fn next_untagged(alloc: Global, stage: &mut Stage, line: &[u8]) -> Result<Step, 
     match lead(alloc, stage, line)? {
         Lead::GoesOn => Ok(Step::GoesOn),
         Lead::Refused(why) => Ok(Step::Refused(why)),
-        Lead::Tells(read) => judge_untagged(stage, &read),
+        Lead::Tells(read) => judge_as(tagging, stage, &read),
     }
 }
 
-/// What a line of a journal without keys leads to.
+/// What a last line without its newline leads to.
 #[inline(never)]
-fn come_untagged(
-    alloc: Global,
-    stage: &mut Stage,
-    line: &[u8],
-    newline_came: bool,
-) -> Result<Came, OutOfMemory>
+fn last(alloc: Global, stage: &mut Stage, line: &[u8]) -> Result<Came, OutOfMemory>
     requires ready { IsReady stage.old }
     requires few { entries_of stage.old + 1 < 2 ^ 64 }
     requires short { length line.now ≤ most_bytes }
-    ensures came { IfOk result (λ came. came_given came stage.new ≡ untagged_came stage.old line.now newline_came) }
+    ensures came { IfOk result (λ came. came_given came stage.new ≡ last_step stage.old line.now) }
     ensures ready { IsReady stage.new }
     ensures more { IfOk result (λ _. entries_of stage.new ≤ entries_of stage.old + 1) }
     ensures none { OnErr result (entries_of stage.new ≤ entries_of stage.old) }
 {
-    if newline_came {
-        Ok(Came::Whole(next_untagged(alloc, stage, line)?))
-    } else {
-        Ok(cut_last(ended(alloc, stage)))
+    let before = ended(alloc, stage);
+    match lead(alloc, stage, line)? {
+        Lead::GoesOn => Ok(Came::Whole(Step::GoesOn)),
+        Lead::Refused(why) => Ok(refuse_last(before, why)),
+        Lead::Tells(read) => judge_last(stage, &read),
     }
 }
 
-/// What a line leads to in a journal with keys or without.
+/// What a line leads to in a journal with keys or without, if it has its newline or lacks it.
 fn come_as(
     alloc: Global,
     tagging: Tagging,
@@ -71,9 +72,12 @@ fn come_as(
     ensures more { IfOk result (λ _. entries_of stage.new ≤ entries_of stage.old + 1) }
     ensures none { OnErr result (entries_of stage.new ≤ entries_of stage.old) }
 {
+    if newline_came {
+        return Ok(Came::Whole(next(alloc, tagging, stage, line)?));
+    }
     match tagging {
-        Tagging::Tagged => come(alloc, stage, line, newline_came),
-        Tagging::Untagged => come_untagged(alloc, stage, line, newline_came),
+        Tagging::Tagged => last(alloc, stage, line),
+        Tagging::Untagged => Ok(cut_last(ended(alloc, stage))),
     }
 }
 

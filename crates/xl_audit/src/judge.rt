@@ -1,9 +1,7 @@
 // The machine of `xl audit`.
-ghost use Rattle.std.specs.Prelude.{◌≡◌, ℕ, ◌+◌, ◌<◌, ◌≤◌, ◌^◌, None, IfOk, OnErr, OnOk, length};
-ghost use Rattle.xl_audit.specs.Auditing.{step};
+ghost use Rattle.std.specs.Prelude.{◌≡◌, ℕ, ◌+◌, ◌≤◌, None, IfOk, OnErr, length};
 ghost use Rattle.xl_audit.specs.declared.judging.Stage.TheVariants.{Judging};
-ghost use Rattle.xl_audit.specs.Cuts.{came_at, last_step};
-ghost use Rattle.xl_audit.specs.Judging.{IsReady, IsReady-prop, MayOpen, came_given, entries_of, step_given};
+ghost use Rattle.xl_audit.specs.Judging.{IsReady, IsReady-prop, MayOpen, came_given, entries_of};
 ghost use Rattle.xl_audit.specs.Leading.{entry_lead, judging_lead, keying_lead, lead as lead_of, lead_given, opening_lead};
 ghost use Rattle.xl_audit.specs.Opening.{core_of, unmet};
 ghost use Rattle.xl_audit.specs.Words.{tokens};
@@ -12,8 +10,8 @@ ghost use Rattle.xl_audit.specs.Limits.{most_bytes, most_lines};
 use crate::Auditor;
 use crate::coming::come_behind;
 use crate::judging::{
-    BadLine, Came, Lead, Stage, Step, beyond, ended, heading, judge_last, judge_read, opened,
-    push_bad, push_cut, push_no, push_yes, read_entry, refuse_last, refused, setting,
+    BadLine, Came, Lead, Stage, Step, beyond, ended, heading, opened, push_bad, push_cut, push_no,
+    push_yes, read_entry, refused, setting,
 };
 use crate::key_ring::KeyRing;
 use crate::limits::{MOST_BYTES, MOST_LINES};
@@ -281,62 +279,4 @@ pub fn lead<'a>(alloc: Global, stage: &mut Stage, line: &'a [u8]) -> Result<Lead
     let (left, lead) = opening(alloc, taken, line, &words)?;
     *stage = left;
     Ok(lead)
-}
-
-/// What the next line leads to.
-fn next(alloc: Global, stage: &mut Stage, line: &[u8]) -> Result<Step, OutOfMemory>
-    requires ready { IsReady stage.old }
-    requires few { entries_of stage.old + 1 < 2 ^ 64 }
-    requires short { length line.now ≤ most_bytes }
-    ensures step { IfOk result (λ done. step_given done stage.new ≡ step stage.old line.now) }
-    ensures ready { IsReady stage.new }
-    ensures more { IfOk result (λ _. entries_of stage.new ≤ entries_of stage.old + 1) }
-    ensures none { OnErr result (entries_of stage.new ≤ entries_of stage.old) }
-{
-    match lead(alloc, stage, line)? {
-        Lead::GoesOn => Ok(Step::GoesOn),
-        Lead::Refused(why) => Ok(Step::Refused(why)),
-        Lead::Tells(read) => judge_read(stage, &read),
-    }
-}
-
-/// What a last line without its newline leads to.
-#[inline(never)]
-fn last(alloc: Global, stage: &mut Stage, line: &[u8]) -> Result<Came, OutOfMemory>
-    requires ready { IsReady stage.old }
-    requires few { entries_of stage.old + 1 < 2 ^ 64 }
-    requires short { length line.now ≤ most_bytes }
-    ensures came { IfOk result (λ came. came_given came stage.new ≡ last_step stage.old line.now) }
-    ensures ready { IsReady stage.new }
-    ensures more { IfOk result (λ _. entries_of stage.new ≤ entries_of stage.old + 1) }
-    ensures none { OnErr result (entries_of stage.new ≤ entries_of stage.old) }
-{
-    let before = ended(alloc, stage);
-    match lead(alloc, stage, line)? {
-        Lead::GoesOn => Ok(Came::Whole(Step::GoesOn)),
-        Lead::Refused(why) => Ok(refuse_last(before, why)),
-        Lead::Tells(read) => judge_last(stage, &read),
-    }
-}
-
-/// What a line leads to, if it has its newline or lacks it.
-pub(crate) fn come(
-    alloc: Global,
-    stage: &mut Stage,
-    line: &[u8],
-    ended: bool,
-) -> Result<Came, OutOfMemory>
-    requires ready { IsReady stage.old }
-    requires few { entries_of stage.old + 1 < 2 ^ 64 }
-    requires short { length line.now ≤ most_bytes }
-    ensures came { IfOk result (λ came. came_given came stage.new ≡ came_at stage.old line.now ended) }
-    ensures ready { IsReady stage.new }
-    ensures more { IfOk result (λ _. entries_of stage.new ≤ entries_of stage.old + 1) }
-    ensures none { OnErr result (entries_of stage.new ≤ entries_of stage.old) }
-{
-    if ended {
-        Ok(Came::Whole(next(alloc, stage, line)?))
-    } else {
-        last(alloc, stage, line)
-    }
 }

@@ -1,5 +1,5 @@
 // A journal, line by line.
-ghost use Rattle.std.specs.Prelude.{◌≡◌, ℕ, List, ◌+◌, ◌++◌, ◌<◌, ◌≤◌, ◌^◌, None, IfOk, OnErr, OnOk, decimal};
+ghost use Rattle.std.specs.Prelude.{◌≡◌, ℕ, List, ◌+◌, ◌++◌, ◌<◌, ◌≤◌, ◌^◌, None, IfOk, IsTrue, OnErr, OnOk, decimal};
 ghost use Rattle.std.specs.String.{string_bytes};
 ghost use Rattle.xl_audit.specs.Auditing.{bad_line, bad_text, beyond, ended, heading_step, no_line, set};
 ghost use Rattle.xl_audit.specs.Audits.{all_line, cut_line, ending};
@@ -8,6 +8,7 @@ ghost use Rattle.xl_audit.specs.Judging.{IsReady, IsRefused, MayOpen, came_given
 ghost use Rattle.xl_audit.specs.Leading.{IsAskedAt, judged_at, lead_given, leads, read_lead};
 ghost use Rattle.xl_audit.specs.Opening.{core_of, opening_in, unmet};
 ghost use Rattle.xl_audit.specs.Reading.{entry_in};
+ghost use Rattle.xl_audit.specs.Rights.{IsAsked, is_right_as, next_as};
 ghost use Rattle.xl_audit.specs.Words.{tokens};
 
 use crate::Auditor;
@@ -133,41 +134,41 @@ pub fn read_entry<'a>(
     }
 }
 
-/// An entry is judged, and counted if it is right.
-pub fn judge_read(stage: &mut Stage, read: &ReadEntry<'_>) -> Result<Step, OutOfMemory>
-    requires asked { IsAskedAt stage.old read.now }
-    requires few { entries_of stage.old + 1 < 2 ^ 64 }
-    ensures step { IfOk result (λ step. step_given step stage.new ≡ judged_at Tagging.Tagged stage.old read.now) }
-    ensures ready { IsReady stage.old → IsReady stage.new }
-    ensures more { IfOk result (λ _. entries_of stage.new ≤ entries_of stage.old + 1) }
-    ensures none { OnErr result (entries_of stage.new ≤ entries_of stage.old) }
+/// Whether an entry is right in a journal with keys or without.
+fn is_right(
+    tagging: Tagging,
+    auditor: &mut Auditor,
+    read: &ReadEntry<'_>,
+) -> Result<bool, OutOfMemory>
+    requires { IsAsked auditor.old read.now }
+    ensures value { IfOk result (λ right. right ≡ is_right_as tagging auditor.old read.now) }
+    ensures core { IfOk result (λ right. IsTrue right → auditor.new ≡ next_as tagging auditor.old read.now) }
 {
-    match stage {
-        Stage::Judging { auditor, entries } => {
+    match tagging {
+        Tagging::Tagged => {
             let mut answer = CoreAnswer::Done;
-            if auditor.judge(&read.entry, read.reply, &mut answer)? {
-                *entries += 1;
-                Ok(Step::GoesOn)
-            } else {
-                Ok(Step::Wrong(*entries + 1))
-            }
+            auditor.judge(&read.entry, read.reply, &mut answer)
         }
-        _ => Ok(Step::GoesOn),
+        Tagging::Untagged => auditor.judge_untagged(&read.entry, read.reply),
     }
 }
 
-/// An entry of a journal without keys is judged, and counted if it is right.
-pub fn judge_untagged(stage: &mut Stage, read: &ReadEntry<'_>) -> Result<Step, OutOfMemory>
+/// An entry is judged, and counted if it is right.
+pub fn judge_as(
+    tagging: Tagging,
+    stage: &mut Stage,
+    read: &ReadEntry<'_>,
+) -> Result<Step, OutOfMemory>
     requires asked { IsAskedAt stage.old read.now }
     requires few { entries_of stage.old + 1 < 2 ^ 64 }
-    ensures step { IfOk result (λ step. step_given step stage.new ≡ judged_at Tagging.Untagged stage.old read.now) }
+    ensures step { IfOk result (λ step. step_given step stage.new ≡ judged_at tagging stage.old read.now) }
     ensures ready { IsReady stage.old → IsReady stage.new }
     ensures more { IfOk result (λ _. entries_of stage.new ≤ entries_of stage.old + 1) }
     ensures none { OnErr result (entries_of stage.new ≤ entries_of stage.old) }
 {
     match stage {
         Stage::Judging { auditor, entries } => {
-            if auditor.judge_untagged(&read.entry, read.reply)? {
+            if is_right(tagging, auditor, read)? {
                 *entries += 1;
                 Ok(Step::GoesOn)
             } else {
