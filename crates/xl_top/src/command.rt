@@ -98,6 +98,7 @@ pub fn top<
     ensures told { asked_of (words_of words.now) ≡ Some Command.Node
         → Tells P.D.Board.show_gives P.D.Board.stands (P.stands boards.old)
         (Rose (P.faults boards.old) (P.faults boards.new)) (boards.new ≡ boards.old)
+        (hub_seen (H.faults hub.old) (H.asked hub.old)) (hub_seen (H.faults hub.new) (H.asked hub.new))
         (I.left input.old) (C.may_give host.now.clock.now) result.journal result.status result.bulletin
         ⊎ ((result.status ≡ Status.OutOfMemory) × (result.bulletin ≡ None) × (boards.new ≡ boards.old)) }
     // What stands in the file that its settings name for the journal: the text of that, or a front of it.

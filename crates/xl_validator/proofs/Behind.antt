@@ -97,6 +97,7 @@ module _ {K O : Type 0}
     pub write : end ≡ status.WriteFault → Rose before.faults after.faults
     pub keeper : end ≢ status.KeepFault
     pub net : end ≡ status.NetFault → Rose old_hub.faults new_hub.faults
+    pub failed : end ≡ status.NetFault → ended ≡ status.NetFault
 
   module _ (core : Core) (task : Task) (opened : core ≡ opening_core s moment kept) (tasked : task ≡ task_of s moment)
       (ever : AreEverKeyed (rolls_of s) s.publishing core)
@@ -135,6 +136,7 @@ module _ {K O : Type 0}
       write = λ w. subst (λ (o : Output). Rose before.faults o.faults) (sym same_output) (leaves.write (sym is ∙ w));
       keeper = λ k. leaves.keeper (sym is ∙ k);
       net = λ n. leaves.net (sym is ∙ n);
+      failed = λ n. sym is ∙ n;
     }
       where
         all : (j : Option (List Entry))
@@ -168,6 +170,7 @@ module _ {K O : Type 0}
           write = λ w. rose_later before.faults reported.faults after.faults (leaves.later over) (written_fault (text_of s moment kept history) ended over end reported after text w);
           keeper = written_keeper (text_of s moment kept history) ended over end reported after text;
           net = λ n. absurd (written_net (text_of s moment kept history) ended over end reported after text n);
+          failed = λ n. absurd (written_net (text_of s moment kept history) ended over end reported after text n);
         }
 
     -- by what is asked, and by how the run ended

@@ -29,12 +29,13 @@ use Rattle.xl_workers.specs.declared.ends.RunEnd.TheVariants as ends
 use Rattle.xl_workers.specs.Linking.{member_in}
 use Rattle.xl_workers.specs.Pairing.{Paired}
 use Rattle.xl_workers.specs.Submits.{IsSubmit}
-use Rattle.xl_workers.specs.Runs.{Doing, NodeRun, EndsBy, status_of_end}
+use Rattle.xl_workers.specs.Runs.{Doing, NodeRun, EndsBy, EndsUnmade, status_of_end}
 use Rattle.xl_workers.specs.Sharing.{Setting, SubmitPart}
 use Rattle.xl_validator.specs.Ends.{AreBeats, HasBeats, CompletesAt, EndsByTime, EndsFull, AreSubmits, HasRunSo}
 use Rattle.xl_validator.specs.Openings.{opening_core}
 use Rattle.xl_validator.specs.Recordings.{IsWritten}
 use Rattle.xl_validator.specs.Validators.{Between, HasRun, IsKnown, IsOfNode, IsUnopened, Judges}
+use Rattle.xl_validator.proofs.Causes.{never_net}
 use Rattle.xl_validator.proofs.Timers.{IsLastAt, all_at}
 use Rattle.xl_validator.proofs.Beating.{IsOther, over_at, last_timer, beats_of, no_beats}
 
@@ -117,29 +118,6 @@ full_by turns n calls phase ending.OutOfMemory ending.OutOfMemory stop reason st
 bounded : (timing : Timing) (now : ℕ) → is_over timing now ≡ true → (0 < timing.run) × (timing.opened + timing.run ≤ now)
 bounded timing now is = (grind (arith, nat_tests, is), grind (arith, nat_tests, is))
 
--- no run of workers has the status of a failed network
-not_net : (run last : Ending) (stop : Stopping)
-    → first_of (causes_of run stop last) ≢ status.NetFault
-not_net ending.Done ending.Done stopping.Done = λ is. cc
-not_net ending.Done ending.Done (stopping.StoreFull n) = λ is. cc
-not_net ending.Done ending.WriteFault stop = λ is. cc
-not_net ending.Done ending.OutOfMemory stopping.Done = λ is. cc
-not_net ending.Done ending.OutOfMemory (stopping.StoreFull n) = λ is. cc
-not_net ending.Done (ending.StoreFull k) stopping.Done = λ is. cc
-not_net ending.Done (ending.StoreFull k) (stopping.StoreFull n) = λ is. cc
-not_net ending.WriteFault ending.Done stop = λ is. cc
-not_net ending.WriteFault ending.WriteFault stop = λ is. cc
-not_net ending.WriteFault ending.OutOfMemory stop = λ is. cc
-not_net ending.WriteFault (ending.StoreFull n) stop = λ is. cc
-not_net ending.OutOfMemory ending.Done stop = λ is. cc
-not_net ending.OutOfMemory ending.WriteFault stop = λ is. cc
-not_net ending.OutOfMemory ending.OutOfMemory stop = λ is. cc
-not_net ending.OutOfMemory (ending.StoreFull n) stop = λ is. cc
-not_net (ending.StoreFull m) ending.Done stop = λ is. cc
-not_net (ending.StoreFull m) ending.WriteFault stop = λ is. cc
-not_net (ending.StoreFull m) ending.OutOfMemory stop = λ is. cc
-not_net (ending.StoreFull m) (ending.StoreFull n) stop = λ is. cc
-
 module _ (s : Setting) (d : Doing) (history : List Entry) where
   abbrev H : List Call
   H = calls_of s.start history
@@ -165,7 +143,8 @@ module _ (s : Setting) (d : Doing) (history : List Entry) where
         over = o.over;
         last = last_timer s d.pulse d.door (map member_in d.targets) history done submits ended last d.old_output d.new_output sub out o;
       }
-  timed done submits ends.NetFault sub by is = absurd cc
+  timed done submits (ends.LinkFault member) sub by is = absurd cc
+  timed done submits ends.DoorFault sub by is = absurd cc
   timed done submits ends.OutOfMemory sub by is = absurd cc
   timed done submits ends.TooFewThreads sub by is = absurd cc
   timed done submits (ends.StoreFull n) sub by is = absurd cc
@@ -179,7 +158,8 @@ module _ (s : Setting) (d : Doing) (history : List Entry) where
       let out = by.1 in
       full_by s.turns (length history) out.calls out.beating.phase ended.run last ended.stop out.beating.reason
       out.beating.stopped out.ending.full is
-  full done submits ends.NetFault by is = absurd cc
+  full done submits (ends.LinkFault member) by is = absurd cc
+  full done submits ends.DoorFault by is = absurd cc
   full done submits ends.OutOfMemory by is = absurd cc
   full done submits ends.TooFewThreads by is = absurd cc
   full done submits (ends.StoreFull n) by is = by.3
@@ -187,15 +167,20 @@ module _ (s : Setting) (d : Doing) (history : List Entry) where
   pub run_full : (e : RunEnd) → NodeRun s d e history → status_of_end e ≡ status.StoreFull → length H ≡ s.turns
   run_full e run is = length_calls s.start history ∙ full run.done run.submits e run.by is
 
-  submits_alone : (done : List TxId) (submits : List ℕ) (e : RunEnd) → SubmitPart s history done submits
-      → EndsBy s d history done submits e → status_of_end e ≡ status.NetFault → Paired (IsSubmit s.may_give) d.ids H
-  submits_alone done submits (ends.Ran ended last) sub by is = absurd (not_net ended.run last ended.stop is)
-  submits_alone done submits ends.NetFault sub by is =
+  of_all : (done : List TxId) (submits : List ℕ) → SubmitPart s history done submits → EndsUnmade d history done submits
+      → Paired (IsSubmit s.may_give) d.ids H
+  of_all done submits sub by =
       let long : length history ≡ length H = sym (length_calls s.start history) in
       let places = subst (λ (l : List ℕ). map (slice_get H) l ≡ map Some sub.calls)
       (by.1.all ∙ ap all_below long) sub.stand.at in
       subst (λ (cs : List Call). Paired (IsSubmit s.may_give) d.ids cs) (all_at H sub.calls places)
       (subst (λ (ids : List TxId). Paired (IsSubmit s.may_give) ids sub.calls) by.0 sub.each)
+
+  submits_alone : (done : List TxId) (submits : List ℕ) (e : RunEnd) → SubmitPart s history done submits
+      → EndsBy s d history done submits e → status_of_end e ≡ status.NetFault → Paired (IsSubmit s.may_give) d.ids H
+  submits_alone done submits (ends.Ran ended last) sub by is = absurd (never_net ended last is)
+  submits_alone done submits (ends.LinkFault member) sub by is = of_all done submits sub by
+  submits_alone done submits ends.DoorFault sub by is = of_all done submits sub by
   submits_alone done submits ends.OutOfMemory sub by is = absurd cc
   submits_alone done submits ends.TooFewThreads sub by is = absurd cc
   submits_alone done submits (ends.StoreFull n) sub by is = absurd cc
@@ -208,7 +193,8 @@ module _ (s : Setting) (d : Doing) (history : List Entry) where
       → EndsBy s d history done submits e → AreBeats d.pulse.rolls d.pulse.publishing H
   beaten done submits (ends.Ran ended last) sub by =
       beats_of s d.pulse d.door (map member_in d.targets) history done submits ended last d.old_output d.new_output sub by.1
-  beaten done submits ends.NetFault sub by = no_beats s d.pulse history done submits sub by.1.all
+  beaten done submits (ends.LinkFault member) sub by = no_beats s d.pulse history done submits sub by.1.all
+  beaten done submits ends.DoorFault sub by = no_beats s d.pulse history done submits sub by.1.all
   beaten done submits ends.OutOfMemory sub by = no_beats s d.pulse history done submits sub by.1.all
   beaten done submits ends.TooFewThreads sub by = no_beats s d.pulse history done submits sub by.1.all
   beaten done submits (ends.StoreFull n) sub by = no_beats s d.pulse history done submits sub by.1.all

@@ -1,5 +1,5 @@
 -- What a node told, by how its run ended.
-use Rattle.std.proofs.Common.{◌≡◌, ◌⊎◌, ℕ, Bool, true, false, List, Option, Some, None, Result, Ok, Err, IfSome, IsSome, IfOk, OnErr, MatchResult, refl, sym, ap, ◌∙◌, subst, inl, inr}
+use Rattle.std.proofs.Common.{◌≡◌, ◌⊎◌, ℕ, Bool, true, false, List, Option, Some, None, Result, Ok, Err, IfSome, IsSome, IfOk, OnErr, MatchResult, map, refl, sym, ap, ◌∙◌, subst, inl, inr}
 use Rattle.xl_base.specs.declared.status.Status.{Status}
 use Rattle.xl_base.specs.declared.status.Status.TheVariants as status
 use Rattle.xl_core.specs.Core.{Core}
@@ -8,6 +8,8 @@ use Rattle.xl_store.specs.declared.entry.Entry.{Entry}
 use Rattle.xl_store.specs.declared.status.NodeStatus.{NodeStatus}
 use Rattle.xl_store.specs.Entries.{life_of}
 use Rattle.xl_store.specs.Statuses.{status_of}
+use Rattle.xl_status.specs.declared.end.Unmade.{Unmade}
+use Rattle.xl_status.specs.Texts.{end_at}
 use Rattle.xl_heartbeat.specs.declared.bulletin.Bulletin.{Bulletin}
 use Rattle.xl_heartbeat.specs.Bulletins.{TellsEnd, ToldIf}
 use Rattle.xl_settings.specs.declared.key_name.KeyName.{KeyName}
@@ -17,10 +19,15 @@ use Rattle.xl_settings.specs.declared.settings.Settings.{Settings}
 use Rattle.xl_settings.specs.Settings.{settings_of}
 use Rattle.xl_recorder.specs.declared.record_end.RecordEnd.{RecordEnd}
 use Rattle.xl_validator.specs.Following.{status_with}
-use Rattle.xl_validator.specs.Openings.{opening_core}
+use Rattle.xl_workers.specs.declared.ends.RunEnd.{RunEnd}
+use Rattle.xl_workers.specs.Linking.{HubSeen}
+use Rattle.xl_workers.specs.Runs.{Doing, NodeRun, status_of_end}
+use Rattle.xl_workers.specs.Sharing.{Setting}
+use Rattle.xl_validator.specs.Openings.{opening_core, target_at}
 use Rattle.xl_validator.specs.Reaching.{IsNamed}
 use Rattle.xl_validator.specs.Recordings.{is_over, is_written}
-use Rattle.xl_validator.specs.Tellings.{HasNoBoard, HasTold, IsBoardless, IsOpened, IsOpenedAt, Tells, TellsOfEnd, TellsSo}
+use Rattle.xl_validator.specs.Tellings.{FailsAt, HasNoBoard, HasTold, IsBoardless, IsOpened, IsOpenedAt, Tells, TellsOfEnd, TellsSo, unmade_of}
+use Rattle.xl_validator.proofs.Causes.{unmade_cause}
 use Rattle.xl_validator.proofs.Refusing.{some_any, some_map}
 use Rattle.xl_validator.proofs.Statuses.{keeps_memory}
 
@@ -38,23 +45,25 @@ handed_back history left journal true is stays goes =
 handed_back history left journal false is stays goes =
     subst (λ (j : Option (List Entry)). IfSome j (λ entries. entries ≡ history)) (sym (stays refl ∙ is)) refl
 
-module _ {D : Type 0} (gives : D → List ℕ → Bool → D → Type 0) (s : Settings) (moment : ℕ)
-    (journal : Option (List Entry)) (end : Status) where
+module _ {D : Type 0} (gives : D → List ℕ → Bool → D → Type 0) (old_hub new_hub : HubSeen) (s : Settings) (moment : ℕ)
+    (journal : Option (List Entry)) (end : Status) (unmade : Option Unmade) where
   -- a store was opened
   of_run : (kept : ℕ) (history : List Entry) (core : Core) (at_end : Option NodeStatus)
       (first mid last : Option (Bulletin D))
       → core ≡ core_after (opening_core s moment kept) (life_of history)
       → ToldIf gives (opening_core s moment kept) first history mid → at_end ≡ Some (status_of core)
-      → IfSome journal (λ entries. entries ≡ history) → TellsOfEnd gives at_end end mid last
-      → TellsSo gives s moment journal end first last
-  of_run kept history core at_end None mid last lives told is handed ends =
-      subst (λ (m : Option (Bulletin D)). TellsOfEnd gives at_end end m last) told ends
-  of_run kept history core at_end (Some first) None last lives told is handed ends = absurd told
-  of_run kept history core at_end (Some first) (Some mid) last lives told is handed ends =
-      go last (subst (λ (a : Option NodeStatus). TellsOfEnd gives a end (Some mid) last) is ends)
+      → IfSome journal (λ entries. entries ≡ history)
+      → (end ≡ status.NetFault → FailsAt old_hub new_hub s unmade)
+      → TellsOfEnd gives at_end (end_at end unmade) mid last
+      → TellsSo gives old_hub new_hub s moment journal end first last
+  of_run kept history core at_end None mid last lives told is handed fails ends =
+      subst (λ (m : Option (Bulletin D)). TellsOfEnd gives at_end (end_at end unmade) m last) told ends
+  of_run kept history core at_end (Some first) None last lives told is handed fails ends = absurd told
+  of_run kept history core at_end (Some first) (Some mid) last lives told is handed fails ends =
+      go last (subst (λ (a : Option NodeStatus). TellsOfEnd gives a (end_at end unmade) (Some mid) last) is ends)
     where
-      go : (new : Option (Bulletin D)) → TellsOfEnd gives (Some (status_of core)) end (Some mid) new
-          → TellsSo gives s moment journal end (Some first) new
+      go : (new : Option (Bulletin D)) → TellsOfEnd gives (Some (status_of core)) (end_at end unmade) (Some mid) new
+          → TellsSo gives old_hub new_hub s moment journal end (Some first) new
       go None e = absurd e
       go (Some new) e = inl (record {
         kept = kept;
@@ -62,19 +71,21 @@ module _ {D : Type 0} (gives : D → List ℕ → Bool → D → Type 0) (s : Se
         handed = handed;
         mid = mid;
         told = told;
-        ended = subst (λ (c : Core). TellsEnd gives (status_of c) end mid new) lives e;
+        unmade = unmade;
+        ended = subst (λ (c : Core). TellsEnd gives (status_of c) (end_at end unmade) mid new) lives e;
+        fails = fails;
       })
 
   -- none was
   pub of_none : (at_end : Option NodeStatus) (first last : Option (Bulletin D)) → at_end ≡ None → journal ≡ None
-      → (end ≡ status.KeepFault) ⊎ (end ≡ status.OutOfMemory) → TellsOfEnd gives at_end end first last
-      → TellsSo gives s moment journal end first last
+      → (end ≡ status.KeepFault) ⊎ (end ≡ status.OutOfMemory) → TellsOfEnd gives at_end (end_at end unmade) first last
+      → TellsSo gives old_hub new_hub s moment journal end first last
   of_none at_end None last none unopened cause ends = ends
   of_none at_end (Some first) last none unopened cause ends =
-      go last (subst (λ (a : Option NodeStatus). TellsOfEnd gives a end (Some first) last) none ends)
+      go last (subst (λ (a : Option NodeStatus). TellsOfEnd gives a (end_at end unmade) (Some first) last) none ends)
     where
-      go : (new : Option (Bulletin D)) → TellsOfEnd gives None end (Some first) new
-          → TellsSo gives s moment journal end (Some first) new
+      go : (new : Option (Bulletin D)) → TellsOfEnd gives None (end_at end unmade) (Some first) new
+          → TellsSo gives old_hub new_hub s moment journal end (Some first) new
       go None e = absurd e
       go (Some new) e = inr (record { none = unopened; cause = cause; ended = e })
 
@@ -90,20 +101,35 @@ module _ {D : Type 0} (gives : D → List ℕ → Bool → D → Type 0) (s : Se
       → MatchResult ran (λ r. ended ≡ end_of r) (λ _. ended ≡ status.OutOfMemory)
       → (is_written asked ended ≡ false → (settled ≡ ended) × (journal ≡ left) × X)
       → (is_written asked ended ≡ true → journal ≡ None) → end ≡ status_with w settled
-      → TellsOfEnd gives at_end end mid last
-      → TellsSo gives s moment journal end first last
+      → IfOk ran (λ _. end ≡ status.NetFault → FailsAt old_hub new_hub s unmade)
+      → TellsOfEnd gives at_end (end_at end unmade) mid last
+      → TellsSo gives old_hub new_hub s moment journal end first last
   of_either kept (Ok r) history_of core_of end_of core first mid last at_end left asked ended settled w opened lives told
-      untold is handed by stays goes with_it ends =
+      untold is handed by stays goes with_it fails ends =
       of_run kept (history_of r) (core_of r) at_end first mid last
       (subst (λ (c : Core). core_of r ≡ core_after c (life_of (history_of r))) opened lives)
       (subst (λ (c : Core). ToldIf gives c first (history_of r) mid) opened told) is
-      (handed_back (history_of r) left journal (is_written asked ended) handed (λ no. (stays no).1) goes) ends
+      (handed_back (history_of r) left journal (is_written asked ended) handed (λ no. (stays no).1) goes) fails ends
   of_either kept (Err e) history_of core_of end_of core first mid last at_end left asked ended settled w opened lives told
-      untold is handed by stays goes with_it ends =
+      untold is handed by stays goes with_it fails ends =
       let kept_so = stays (unwritten asked ended by) in
       of_none at_end first last is (kept_so.1 ∙ handed)
       (inr (with_it ∙ ap (status_with w) (kept_so.0 ∙ by) ∙ keeps_memory w))
-      (subst (λ (m : Option (Bulletin D)). TellsOfEnd gives at_end end m last) untold ends)
+      (subst (λ (m : Option (Bulletin D)). TellsOfEnd gives at_end (end_at end unmade) m last) untold ends)
+
+-- what the hub of a run couldn't make, if that ended the command
+pub failing : {R S : Type 0} (s : Settings) (st : Setting) (d : Doing) (ran : Result R S) (run_of : R → RunEnd)
+    (history_of : R → List Entry) (end ended : Status) (unmade told : Option Unmade)
+    → d.targets ≡ map target_at s.peers → d.door ≡ s.submit_at
+    → MatchResult ran (λ r. ended ≡ status_of_end (run_of r)) (λ _. ended ≡ status.OutOfMemory)
+    → MatchResult ran (λ r. unmade ≡ unmade_of (run_of r)) (λ _. unmade ≡ None)
+    → IfOk ran (λ r. NodeRun st d (run_of r) (history_of r)) → told ≡ unmade
+    → (end ≡ status.NetFault → ended ≡ status.NetFault)
+    → IfOk ran (λ _. end ≡ status.NetFault → FailsAt d.old_hub d.new_hub s told)
+failing s st d (Ok r) run_of history_of end ended unmade told targets door is made run same so =
+    λ net. subst (FailsAt d.old_hub d.new_hub s) (sym (same ∙ made))
+    (unmade_cause s d (run_of r) targets door run.asked (sym is ∙ so net))
+failing s st d (Err e) run_of history_of end ended unmade told targets door is made run same so = tt
 
 -- ---- the whole command
 
@@ -159,15 +185,15 @@ boardless failed end told same (inl is) cause = subst (IsBoardless failed) (sym 
 boardless failed end told same (inr is) cause = subst (IsBoardless failed) (sym (same ∙ is)) cause
 
 module _ {D : Type 0} (gives : D → List ℕ → Bool → D → Type 0) (stands_on : D → Option (Option (List ℕ)))
-    (stands_at : List ℕ → Option (Option (List ℕ))) (failed untouched : Type 0)
+    (stands_at : List ℕ → Option (Option (List ℕ))) (failed untouched : Type 0) (old_hub new_hub : HubSeen)
     (input : Option (List ℕ)) (may_give : ℕ → Bool) (journal : Option (List Entry)) (end : Status)
     (last : Option (Bulletin D)) (moment : ℕ) (given : may_give moment ≡ true) where
   abbrev HasAll : Type 0
-  HasAll = Tells gives stands_on stands_at failed untouched input may_give journal end last
+  HasAll = Tells gives stands_on stands_at failed untouched old_hub new_hub input may_give journal end last
 
   abbrev By : Settings → Type 0
-  By s = HasTold gives stands_on stands_at failed untouched s moment journal end last
-      ⊎ HasNoBoard gives stands_on stands_at failed untouched s journal end last
+  By s = HasTold gives stands_on stands_at failed untouched old_hub new_hub s moment journal end last
+      ⊎ HasNoBoard gives stands_on stands_at failed untouched old_hub new_hub s journal end last
 
   abbrev Unread : SettingsRefusal → Type 0
   Unread why = (last ≡ None) × untouched
@@ -183,7 +209,7 @@ module _ {D : Type 0} (gives : D → List ℕ → Bool → D → Type 0) (stands
   none_first None s first is opened = opened
   none_first (Some p) s first is opened = absurd cc
 
-  none_last : (s : Settings) (first : Option (Bulletin D)) → first ≡ None → TellsSo gives s moment journal end first last
+  none_last : (s : Settings) (first : Option (Bulletin D)) → first ≡ None → TellsSo gives old_hub new_hub s moment journal end first last
       → last ≡ None
   none_last s None is tells = tells
   none_last s (Some b) is tells = absurd cc
@@ -191,7 +217,7 @@ module _ {D : Type 0} (gives : D → List ℕ → Bool → D → Type 0) (stands
   -- a node ran by them, or should have
   pub tells_by : (s : Settings) (first : Option (Bulletin D)) → IfSome input (λ bytes. settings_of bytes moment ≡ Ok s)
       → IsOpened stands_on stands_at s moment first → (s.status ≡ None → s.journal_file ≡ None → untouched)
-      → TellsSo gives s moment journal end first last → HasAll
+      → TellsSo gives old_hub new_hub s moment journal end first last → HasAll
   tells_by s first are opened untouched tells = record {
     moment = moment;
     given = given;

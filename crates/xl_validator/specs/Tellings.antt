@@ -1,5 +1,5 @@
 -- What the command `node` tells on a board. Source: this project's own.
-use Rattle.std.specs.Prelude.{◌≡◌, ◌⊎◌, ℕ, Bool, true, List, Some, None, Ok, IfSome, MatchResult}
+use Rattle.std.specs.Prelude.{◌≡◌, ◌⊎◌, ℕ, Bool, true, List, map, Some, None, Ok, IfSome, MatchResult}
 use Rattle.std.specs.declared.option.Option.{Option}
 use Rattle.xl_base.specs.declared.status.Status.{Status}
 use Rattle.xl_base.specs.declared.status.Status.TheVariants as status
@@ -8,8 +8,12 @@ use Rattle.xl_store.specs.declared.entry.Entry.{Entry}
 use Rattle.xl_store.specs.declared.status.NodeStatus.{NodeStatus}
 use Rattle.xl_store.specs.Entries.{life_of}
 use Rattle.xl_store.specs.Statuses.{status_of}
+use Rattle.xl_status.specs.declared.end.End.{End}
+use Rattle.xl_status.specs.declared.end.Unmade.{Unmade}
+use Rattle.xl_status.specs.declared.end.Unmade.TheVariants.{Link, Door}
 use Rattle.xl_status.specs.declared.profile.Profile.{Profile}
 use Rattle.xl_status.specs.Hearings.{unheard_since}
+use Rattle.xl_status.specs.Texts.{end_at}
 use Rattle.xl_heartbeat.specs.declared.bulletin.Bulletin.{Bulletin}
 use Rattle.xl_heartbeat.specs.Bulletins.{TellsEnd, TellsUnopened, Told}
 use Rattle.xl_settings.specs.declared.settings.Settings.{Settings}
@@ -17,7 +21,10 @@ use Rattle.xl_settings.specs.declared.key_name.KeyName.{KeyName}
 use Rattle.xl_settings.specs.declared.refusal.SettingsRefusal.TheVariants.{Known}
 use Rattle.xl_settings.specs.Lines.{refusal_line}
 use Rattle.xl_settings.specs.Settings.{settings_of}
-use Rattle.xl_validator.specs.Openings.{opening_core}
+use Rattle.xl_workers.specs.declared.ends.RunEnd.{RunEnd}
+use Rattle.xl_workers.specs.declared.ends.RunEnd.TheVariants as end
+use Rattle.xl_workers.specs.Linking.{HubSeen, AsksUpTo, AsksUpToDoor}
+use Rattle.xl_validator.specs.Openings.{opening_core, target_at}
 use Rattle.xl_validator.specs.Reaching.{IsNamed}
 use Rattle.xl_validator.specs.Validators.{IsRefused}
 
@@ -51,15 +58,33 @@ module _ {D : Type 0} (stands_on : D → Option (Option (List ℕ))) (stands_at 
   abbrev pub IsOpened : Option (Bulletin D) → Type 0
   IsOpened first = IsOpenedAt s.status first
 
+-- what the hub of a run couldn't make, if that ended it
+abbrev pub unmade_of : RunEnd → Option Unmade
+unmade_of (end.LinkFault member) = Some (Link member)
+unmade_of end.DoorFault = Some Door
+unmade_of (end.Ran beats last) = None
+unmade_of end.OutOfMemory = None
+unmade_of end.TooFewThreads = None
+unmade_of (end.StoreFull n) = None
+
+-- What the hub couldn't make is what it was asked for last, of the links and the door that the settings ask for: the link to
+-- this member, behind the ones before it and no door; or the door, behind all links
+abbrev pub FailsAt : HubSeen → HubSeen → Settings → Option Unmade → Type 0
+FailsAt old new s None = ⊥
+FailsAt old new s (Some (Link member)) = AsksUpTo old (map target_at s.peers) member new
+FailsAt old new s (Some Door) = AsksUpToDoor old (map target_at s.peers) s.submit_at new
+
 module _ {D : Type 0} (gives : D → List ℕ → Bool → D → Type 0) where
   -- the end was told, and how the node was if its store was opened
-  abbrev pub TellsOfEnd : Option NodeStatus → Status → Option (Bulletin D) → Option (Bulletin D) → Type 0
+  abbrev pub TellsOfEnd : Option NodeStatus → End → Option (Bulletin D) → Option (Bulletin D) → Type 0
   TellsOfEnd last ended None new = new ≡ None
   TellsOfEnd last ended (Some old) None = ⊥
-  TellsOfEnd None ended (Some old) (Some new) = TellsUnopened gives ended old new
+  TellsOfEnd None ended (Some old) (Some new) = TellsUnopened gives ended.status old new
   TellsOfEnd (Some at_end) ended (Some old) (Some new) = TellsEnd gives at_end ended old new
 
-  -- A node's store was opened. How its core was at places of its history was told as it was due, and then how it ended
+module _ {D : Type 0} (gives : D → List ℕ → Bool → D → Type 0) (old_hub new_hub : HubSeen) where
+  -- A node's store was opened. How its core was at places of its history was told as it was due, and then how it ended.
+  -- If its hub failed, what that couldn't make was told too
   pub record TellsRun (s : Settings) (moment : ℕ) (journal : Option (List Entry)) (end : Status) (first last : Bulletin D)
       : Type 0 where
     pub kept : ℕ
@@ -67,7 +92,10 @@ module _ {D : Type 0} (gives : D → List ℕ → Bool → D → Type 0) where
     pub handed : IfSome journal (λ entries. entries ≡ history)
     pub mid : Bulletin D
     pub told : Told gives (opening_core s moment kept) first history mid
-    pub ended : TellsEnd gives (status_of (core_after (opening_core s moment kept) (life_of history))) end mid last
+    pub unmade : Option Unmade
+    pub ended : TellsEnd gives (status_of (core_after (opening_core s moment kept) (life_of history)))
+        (end_at end unmade) mid last
+    pub fails : end ≡ status.NetFault → FailsAt old_hub new_hub s unmade
 
   -- no store was opened, which was told
   pub record TellsNone (journal : Option (List Entry)) (end : Status) (first last : Bulletin D) : Type 0 where
@@ -91,13 +119,13 @@ IsBoardless failed status.ReadFault = Unit {0}
 IsBoardless failed other = ⊥
 
 module _ {D : Type 0} (gives : D → List ℕ → Bool → D → Type 0) (stands_on : D → Option (Option (List ℕ)))
-    (stands_at : List ℕ → Option (Option (List ℕ))) (failed untouched : Type 0) where
+    (stands_at : List ℕ → Option (Option (List ℕ))) (failed untouched : Type 0) (old_hub new_hub : HubSeen) where
   -- a node told by these settings from its first bulletin on
   pub record HasTold (s : Settings) (moment : ℕ) (journal : Option (List Entry)) (end : Status)
       (last : Option (Bulletin D)) : Type 0 where
     pub first : Option (Bulletin D)
     pub opened : IsOpened stands_on stands_at s moment first
-    pub tells : TellsSo gives s moment journal end first last
+    pub tells : TellsSo gives old_hub new_hub s moment journal end first last
 
   -- without a board nothing is told
   pub record HasNoBoard (s : Settings) (journal : Option (List Entry)) (end : Status) (last : Option (Bulletin D))

@@ -6,12 +6,13 @@ ghost use Rattle.xl_base.specs.Moments.{greatest_millis};
 ghost use Rattle.xl_heartbeat.specs.declared.bulletin.Bulletin.{Bulletin as TheBulletin};
 ghost use Rattle.xl_settings.specs.Lines.{refusal_line};
 ghost use Rattle.xl_settings.specs.Runnable.{AreRunnable};
+ghost use Rattle.xl_status.specs.Texts.{end_at};
 ghost use Rattle.xl_workers.specs.Linking.{hub_seen};
 ghost use Rattle.xl_workers.specs.Runs.{status_of_end};
 ghost use Rattle.xl_validator.specs.Ends.{AreSubmits, CompletesAt, EndsByTime, EndsFull, HasBeats, HasRunSo, IsQuiet};
 ghost use Rattle.xl_validator.specs.Following.{EndsWith, Follows, HasFailed, IsFile, Writes, end_by, status_with};
 ghost use Rattle.xl_validator.specs.Recordings.{is_written};
-ghost use Rattle.xl_validator.specs.Tellings.{IsPathRefused, Tells, TellsOfEnd, TellsSo};
+ghost use Rattle.xl_validator.specs.Tellings.{IsPathRefused, Tells, TellsOfEnd, TellsSo, unmade_of};
 ghost use Rattle.xl_validator.specs.Validators.{HasRecorded, HasRun, IsRefused, Judges, between};
 ghost use Rattle.xl_validator.specs.Validators.{IsKnown, IsOfNode, IsUnopened};
 
@@ -20,7 +21,7 @@ use crate::following::{record_left, recorder_of};
 use crate::preparing::{Judged, Prepared, prepare};
 use crate::reaching::{Reached, Unreached, reach_all};
 use crate::recording::{recorded, recording_of};
-use crate::run::Run;
+use crate::run::{Run, unmade_of};
 use crate::started::{Started, finish};
 use crate::telling::status_left;
 use std::fs::Files;
@@ -55,6 +56,7 @@ fn refuse<O: Sink>(output: &mut O, refusal: &SettingsRefusal) -> Status
 fn left_by<K: Drop>(ran: Result<Ran<Trie, K>, Spared<Trie, K>>) -> (Run<K>, Option<Batch>)
     ensures status { MatchResult ran (λ r. result.0.status ≡ status_of_end r.end)
         (λ _. result.0.status ≡ Status.OutOfMemory) }
+    ensures unmade { MatchResult ran (λ r. result.0.unmade ≡ unmade_of r.end) (λ _. result.0.unmade ≡ None) }
     ensures keeper { MatchResult ran (λ r. result.0.keeper ≡ r.closed.keeper) (λ s. result.0.keeper ≡ s.keeper) }
     ensures journal { MatchResult ran (λ r. result.0.journal ≡ Some r.closed.journal) (λ _. result.0.journal ≡ None) }
     ensures left { MatchResult ran (λ r. result.1 ≡ r.closed.left) (λ _. result.1 ≡ None) }
@@ -68,8 +70,10 @@ fn left_by<K: Drop>(ran: Result<Ran<Trie, K>, Spared<Trie, K>>) -> (Run<K>, Opti
                 journal,
                 left,
             } = closed;
+            let unmade = unmade_of(&end);
             let ended = Run {
                 status: end.status(),
+                unmade,
                 keeper,
                 journal: Some(journal),
             };
@@ -124,8 +128,9 @@ fn start<
     ensures net { result.run.status ≡ Status.NetFault → Rose (H.faults hub.old) (H.faults hub.new) }
     ensures told { (end : TheStatus) (last : Option (TheBulletin D))
         → end ≡ status_with (end_by result.outlets.recorder) result.run.status
-        → TellsOfEnd D.show_gives result.last end result.outlets.bulletin last
-        → TellsSo D.show_gives judged.settings judged.now result.run.journal end reached.bulletin last }
+        → TellsOfEnd D.show_gives result.last (end_at end result.run.unmade) result.outlets.bulletin last
+        → TellsSo D.show_gives (hub_seen (H.faults hub.old) (H.asked hub.old)) (hub_seen (H.faults hub.new) (H.asked hub.new))
+        judged.settings judged.now result.run.journal end reached.bulletin last }
     ensures follows { Follows J.held J.faults judged.settings judged.now
         result.run.journal reached.file result.outlets.recorder }
 {
@@ -215,9 +220,10 @@ pub fn validator<
     ensures recorded { Writes P.J.Sink.held P.J.Sink.faults
         (I.left input.old) (C.may_give host.now.clock.now) result.journal result.recorder }
     // What was told on the board that the settings name: how the core was at places of the history, as it was due, and at
-    // the end how that came. Without one nothing is opened.
+    // the end how that came, and what the hub couldn't make if that is why. Without one nothing is opened.
     ensures told { Tells P.D.Board.show_gives P.D.Board.stands (P.stands boards.old)
         (Rose (P.faults boards.old) (P.faults boards.new)) (boards.new ≡ boards.old)
+        (hub_seen (H.faults hub.old) (H.asked hub.old)) (hub_seen (H.faults hub.new) (H.asked hub.new))
         (I.left input.old) (C.may_give host.now.clock.now) result.journal result.status result.bulletin }
     // Each status has its cause. An end by time, a failed network and a spent store are those of a node that ran.
     ensures known { IsKnown result.status }

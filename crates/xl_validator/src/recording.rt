@@ -155,6 +155,7 @@ pub(crate) fn recorded<O: Sink, K: Drop>(
     requires opened { ended.journal ≡ None → IsUnopened ended.status }
     requires kept { is_some recording ≡ true → entries ≡ ended.journal }
     ensures keeper { result.keeper ≡ ended.keeper }
+    ensures unmade { result.unmade ≡ ended.unmade }
     ensures left { is_written (is_some recording) ended.status ≡ false
         → (result.status ≡ ended.status) × (result.journal ≡ ended.journal) × (sink.new ≡ sink.old) }
     ensures none { is_written (is_some recording) ended.status ≡ true → result.journal ≡ None }
@@ -175,6 +176,7 @@ pub(crate) fn recorded<O: Sink, K: Drop>(
     }
     let Run {
         status,
+        unmade,
         keeper,
         journal: _,
     } = ended;
@@ -183,6 +185,7 @@ pub(crate) fn recorded<O: Sink, K: Drop>(
     };
     Run {
         status: write_behind(alloc, recording, entries, status, sink),
+        unmade,
         keeper,
         journal: None,
     }

@@ -1,5 +1,6 @@
 // A node that has run, and how that is told.
 ghost use Rattle.std.specs.Prelude.{◌≡◌};
+ghost use Rattle.xl_status.specs.Texts.{end_at};
 ghost use Rattle.xl_validator.specs.Following.{end_by, status_with};
 ghost use Rattle.xl_validator.specs.Tellings.{TellsOfEnd};
 
@@ -11,6 +12,7 @@ use xl_board::Board;
 use xl_heartbeat::Outlets;
 use xl_io::Sink;
 use xl_recorder::FileRecorder;
+use xl_status::End;
 use xl_store::NodeStatus;
 
 /// What a node leaves before it is told how it ended: its run, how it was if its store was opened, and its outlets.
@@ -29,11 +31,13 @@ pub(crate) fn finish<K: Drop, D: Board + Drop, J: Sink + Drop>(
     ensures keeper { result.keeper ≡ started.run.keeper }
     ensures journal { result.journal ≡ started.run.journal }
     ensures recorder { result.recorder ≡ started.outlets.recorder }
-    ensures told { TellsOfEnd D.show_gives started.last result.status started.outlets.bulletin result.bulletin }
+    ensures told { TellsOfEnd D.show_gives started.last (end_at result.status started.run.unmade)
+        started.outlets.bulletin result.bulletin }
 {
     let Started { run, last, outlets } = started;
     let Run {
         status: ended,
+        unmade,
         keeper,
         journal,
     } = run;
@@ -42,7 +46,7 @@ pub(crate) fn finish<K: Drop, D: Board + Drop, J: Sink + Drop>(
         recorder,
     } = outlets;
     let status = status_with(&recorder, ended);
-    tell_end(&mut bulletin, &last, status);
+    tell_end(&mut bulletin, &last, End { status, unmade });
     Ended {
         status,
         keeper,

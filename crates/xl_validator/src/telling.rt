@@ -5,11 +5,11 @@ ghost use Rattle.xl_store.specs.Statuses.{status_of};
 ghost use Rattle.xl_validator.specs.Tellings.{IsOpened, TellsOfEnd, profile_of};
 
 use std::alloc::Global;
-use xl_base::{Millis, Status};
+use xl_base::Millis;
 use xl_board::{Board, Boards, NotOpened};
 use xl_heartbeat::Bulletin;
 use xl_settings::Settings;
-use xl_status::{Hearing, Profile};
+use xl_status::{End, Hearing, Profile};
 use xl_store::{NodeStatus, Spared};
 use xl_trie::Trie;
 use xl_workers::Ran;
@@ -72,7 +72,7 @@ pub(crate) fn status_left<K>(ran: &Result<Ran<Trie, K>, Spared<Trie, K>>) -> Opt
 pub(crate) fn tell_end<D: Board>(
     bulletin: &mut Option<Bulletin<D>>,
     last: &Option<NodeStatus>,
-    ended: Status,
+    ended: End,
 )
     ensures { TellsOfEnd D.show_gives last.now ended bulletin.old bulletin.new }
 {
@@ -82,11 +82,11 @@ pub(crate) fn tell_end<D: Board>(
     }
 }
 
-fn tell_on<D: Board>(bulletin: &mut Bulletin<D>, last: &Option<NodeStatus>, ended: Status)
+fn tell_on<D: Board>(bulletin: &mut Bulletin<D>, last: &Option<NodeStatus>, ended: End)
     ensures { TellsOfEnd D.show_gives last.now ended (Some bulletin.old) (Some bulletin.new) }
 {
     match last {
         Some(status) => bulletin.tell_end(status, ended),
-        None => bulletin.tell_unopened(ended),
+        None => bulletin.tell_unopened(ended.status),
     }
 }

@@ -9,7 +9,9 @@ use Rattle.xl_audit.specs.Rereading.{SaysYes}
 use Rattle.xl_base.specs.declared.status.Status.{Status}
 use Rattle.xl_base.specs.declared.status.Status.TheVariants as status
 use Rattle.xl_workers.specs.Linking.{hub_seen}
-use Rattle.xl_workers.specs.Runs.{status_of_end}
+use Rattle.xl_workers.specs.Runs.{doing_of, status_of_end}
+use Rattle.xl_workers.specs.Sharing.{setting}
+use Rattle.xl_validator.specs.Openings.{Task}
 use Rattle.xl_validator.specs.Preparing.{task_in}
 use Rattle.xl_validator.specs.Recordings.{IsWritten, is_written}
 use Rattle.xl_validator.specs.Following.{end_by, retention_by, status_with}
@@ -18,8 +20,8 @@ use Rattle.xl_validator.specs.declared.recording.Recording.{Recording}
 use Rattle.xl_validator.proofs.Behind.{ends, legal_there, text_there, legal_of}
 use Rattle.xl_validator.proofs.Filed.{by_file, follows_first, follows_unread, kept_there, no_recorder}
 use Rattle.xl_validator.proofs.Leaving.{leaves_by}
-use Rattle.xl_validator.proofs.Statuses.{keeps_memory}
-use Rattle.xl_validator.proofs.Told.{of_either, of_none}
+use Rattle.xl_validator.proofs.Statuses.{keeps_memory, run_is}
+use Rattle.xl_validator.proofs.Told.{failing, of_either, of_none}
 use Rattle.xl_validator.proofs.command.start.Goals as goal
 
 pub recorded-run-requires : goal.recorded-run-requires
@@ -124,15 +126,23 @@ returns-in-Ok-prepare g c =
       keeper = λ fault. absurd (all.keeper fault);
       net = all.net;
       told = λ end last with_it ends.
-          of_either g.D.Board.show_gives s c.args.judged.now done.result.journal end
+          let w = end_by c.record_left-entries.new.recorder in
+          of_either g.D.Board.show_gives old_hub new_hub s c.args.judged.now done.result.journal end done.result.unmade
           c.in-Ok.kept c.node-ran.result (λ r. r.closed.journal) (λ r. r.closed.core) (λ r. status_of_end r.end) core
           c.args.reached.bulletin c.node-ran.new.outlets.bulletin last c.status_left-last.result
           left.result.0.journal (is_some made.result) left.result.0.status done.result.status
-          (end_by c.record_left-entries.new.recorder)
-          c.in-Ok-prepare.ensures.core ran.life ran.told (on_err_weaker {Q = c.node-ran.new.outlets.bulletin ≡ c.args.reached.bulletin} c.node-ran.result
+          w c.in-Ok-prepare.ensures.core ran.life ran.told (on_err_weaker {Q = c.node-ran.new.outlets.bulletin ≡ c.args.reached.bulletin} c.node-ran.result
           (λ same. ap (λ (o : Outlets g.row.D.Denot (FileRecorder g.row.J.Denot)). o.bulletin) same) ran.untold)
           c.status_left-last.ensures left.ensures.journal
-          left.ensures.status done.ensures.left done.ensures.none with_it ends;
+          left.ensures.status done.ensures.left done.ensures.none with_it
+          (failing s (setting core task.turns (g.C.Clock.may_give c.args.host.now.clock.now) (g.H.Hub.gives c.args.hub.now))
+          (doing_of task.submits task.targets task.door task.pulse old_hub new_hub (shown old) (shown new))
+          c.node-ran.result (λ r. r.end) (λ r. r.closed.journal) end left.result.0.status left.result.0.unmade
+          done.result.unmade (ap (λ (t : Task). t.targets) c.in-Ok-prepare.ensures.task)
+          (ap (λ (t : Task). t.door) c.in-Ok-prepare.ensures.task) left.ensures.status left.ensures.unmade ran.run
+          done.ensures.unmade
+          (λ net. all.failed (run_is w done.result.status end status.NetFault with_it (λ no. cc) (λ no. cc) net)))
+          ends;
       follows = by_file g.J.Sink.held g.J.Sink.faults s c.args.judged.now c.in-Ok.kept
           (λ r. r.closed.left) (λ r. r.closed.journal) c.in-Ok-prepare.field-0.plan.retention
           c.recorder_of-recorder.result c.node-ran.new.outlets.recorder c.record_left-entries.new.recorder left.result.1
@@ -146,7 +156,9 @@ returns-in-Ok-prepare g c =
 
 pub returns-in_default-clause-told : goal.returns-in_default-clause-told
 returns-in_default-clause-told g c end last with_it ends =
-    of_none g.D.Board.show_gives c.args.judged.settings c.args.judged.now c.unopened.result.journal end
+    of_none g.D.Board.show_gives (hub_seen (g.H.Hub.faults c.args.hub.now) (g.H.Hub.asked c.args.hub.now))
+    (hub_seen (g.H.Hub.faults c.args.hub.now) (g.H.Hub.asked c.args.hub.now))
+    c.args.judged.settings c.args.judged.now c.unopened.result.journal end c.unopened.result.unmade
     None c.args.reached.bulletin last refl c.unopened.ensures.journal (inl (with_it ∙ c.unopened.ensures.status)) ends
 
 pub returns-in_default-clause-follows : goal.returns-in_default-clause-follows
@@ -157,7 +169,9 @@ returns-in_default-clause-follows g c =
 pub returns-in-Err-clause-told : goal.returns-in-Err-clause-told
 returns-in-Err-clause-told g c end last with_it ends =
     let why = end_by c.recorder_of-recorder.result in
-    of_none g.D.Board.show_gives c.args.judged.settings c.args.judged.now c.unopened-in-Err.result.journal end
+    of_none g.D.Board.show_gives (hub_seen (g.H.Hub.faults c.args.hub.now) (g.H.Hub.asked c.args.hub.now))
+    (hub_seen (g.H.Hub.faults c.args.hub.now) (g.H.Hub.asked c.args.hub.now))
+    c.args.judged.settings c.args.judged.now c.unopened-in-Err.result.journal end c.unopened-in-Err.result.unmade
     None c.args.reached.bulletin last refl c.unopened-in-Err.ensures.journal
     (inr (with_it ∙ ap (status_with why) c.unopened-in-Err.ensures.status ∙ keeps_memory why)) ends
 

@@ -192,12 +192,14 @@ returns-in-Ok-reach_all-clause-complete g c no_read no_write no_keep no_net no_b
 pub returns-in-Ok-reach_all-clause-told : goal.returns-in-Ok-reach_all-clause-told
 returns-in-Ok-reach_all-clause-told g c =
     let run = c.start.result.run in
-    tells_by g.P.D.Board.show_gives g.P.D.Board.stands (g.P.Boards.stands c.args.boards.now) _ _
+    tells_by g.P.D.Board.show_gives g.P.D.Board.stands (g.P.Boards.stands c.args.boards.now) _ _ _ _
     (g.I.Source.left c.args.input.now) (g.C.Clock.may_give c.args.host.now.clock.now)
     c.finish.result.journal c.finish.result.status c.finish.result.bulletin c.now-now.result c.now-now.ensures.may
     c.in-Ok.settings c.in-Ok-reach_all.reached.bulletin c.in-Ok.ensures.settings c.in-Ok-reach_all.ensures.opened
     c.reach_all.ensures.unasked
-    (subst (λ (j : Option (List Entry)). TellsSo g.P.D.Board.show_gives c.in-Ok.settings c.now-now.result j
+    (subst (λ (j : Option (List Entry)). TellsSo g.P.D.Board.show_gives
+    (hub_seen (g.H.Hub.faults c.args.hub.now) (g.H.Hub.asked c.args.hub.now))
+    (hub_seen (g.H.Hub.faults c.start.new.hub) (g.H.Hub.asked c.start.new.hub)) c.in-Ok.settings c.now-now.result j
     c.finish.result.status c.in-Ok-reach_all.reached.bulletin c.finish.result.bulletin) (sym c.finish.ensures.journal)
     (c.start.ensures.told c.finish.result.status c.finish.result.bulletin
     (c.finish.ensures.status ∙ ap (λ r. status_with (end_by r) run.status) c.finish.ensures.recorder)
@@ -270,7 +272,7 @@ returns-in-Err-Refused-clause-complete g c no_read no_write no_keep no_net no_bo
 
 pub returns-in-Err-Refused-clause-told : goal.returns-in-Err-Refused-clause-told
 returns-in-Err-Refused-clause-told g c =
-    tells_refused g.P.D.Board.show_gives g.P.D.Board.stands (g.P.Boards.stands c.args.boards.now) _ _
+    tells_refused g.P.D.Board.show_gives g.P.D.Board.stands (g.P.Boards.stands c.args.boards.now) _ _ _ _
     (g.I.Source.left c.args.input.now) (g.C.Clock.may_give c.args.host.now.clock.now)
     c.unopened.result.journal c.unopened.result.status c.unopened.result.bulletin c.now-now.result c.now-now.ensures.may
     c.in-Err-Refused.refusal
@@ -304,7 +306,7 @@ returns-in-Err-Read-clause-recorded g c =
 pub returns-in-Err-Read-clause-told : goal.returns-in-Err-Read-clause-told
 returns-in-Err-Read-clause-told g c =
     let ended = c.unopened-in-Err-Read in
-    tells_unread g.P.D.Board.show_gives g.P.D.Board.stands (g.P.Boards.stands c.args.boards.now) _ _
+    tells_unread g.P.D.Board.show_gives g.P.D.Board.stands (g.P.Boards.stands c.args.boards.now) _ _ _ _
     (g.I.Source.left c.args.input.now) (g.C.Clock.may_give c.args.host.now.clock.now)
     ended.result.journal ended.result.status ended.result.bulletin c.now-now.result c.now-now.ensures.may
     ended.ensures.bulletin ended.ensures.journal refl (subst (IsBoardless _) (sym ended.ensures.status) tt)
@@ -340,7 +342,7 @@ returns-in-Err-OutOfMemory-clause-complete g c no_read no_write no_keep no_net n
 pub returns-in-Err-OutOfMemory-clause-told : goal.returns-in-Err-OutOfMemory-clause-told
 returns-in-Err-OutOfMemory-clause-told g c =
     let ended = c.unopened-in-Err-OutOfMemory in
-    tells_unread g.P.D.Board.show_gives g.P.D.Board.stands (g.P.Boards.stands c.args.boards.now) _ _
+    tells_unread g.P.D.Board.show_gives g.P.D.Board.stands (g.P.Boards.stands c.args.boards.now) _ _ _ _
     (g.I.Source.left c.args.input.now) (g.C.Clock.may_give c.args.host.now.clock.now)
     ended.result.journal ended.result.status ended.result.bulletin c.now-now.result c.now-now.ensures.may
     ended.ensures.bulletin ended.ensures.journal refl (subst (IsBoardless _) (sym ended.ensures.status) tt)
@@ -403,7 +405,7 @@ returns-in-Err-Refused-reach_all-clause-complete g c no_read no_write no_keep no
 pub returns-in-Err-Refused-reach_all-clause-told : goal.returns-in-Err-Refused-reach_all-clause-told
 returns-in-Err-Refused-reach_all-clause-told g c =
     let closed = subst (IsClosed c.in-Ok.settings _) c.in-Err-Refused-reach_all.field-0-is c.in-Err-Refused-reach_all.ensures.closed in
-    tells_none g.P.D.Board.show_gives g.P.D.Board.stands (g.P.Boards.stands c.args.boards.now) _ _
+    tells_none g.P.D.Board.show_gives g.P.D.Board.stands (g.P.Boards.stands c.args.boards.now) _ _ _ _
     (g.I.Source.left c.args.input.now) (g.C.Clock.may_give c.args.host.now.clock.now)
     c.unopened-in-Err-Refused-reach_all.result.journal c.unopened-in-Err-Refused-reach_all.result.status c.unopened-in-Err-Refused-reach_all.result.bulletin c.now-now.result c.now-now.ensures.may
     c.in-Ok.settings c.in-Ok.ensures.settings (is_named c.in-Ok.settings c.in-Err-Refused-reach_all.name closed.0) c.unopened-in-Err-Refused-reach_all.ensures.bulletin c.unopened-in-Err-Refused-reach_all.ensures.journal
@@ -440,7 +442,7 @@ returns-clause-complete g c no_read no_write no_keep no_net no_board no_record f
 pub returns-clause-told : goal.returns-clause-told
 returns-clause-told g c =
     let ended = c.unopened-in-Err-OutOfMemory-reach_all in
-    tells_none g.P.D.Board.show_gives g.P.D.Board.stands (g.P.Boards.stands c.args.boards.now) _ _
+    tells_none g.P.D.Board.show_gives g.P.D.Board.stands (g.P.Boards.stands c.args.boards.now) _ _ _ _
     (g.I.Source.left c.args.input.now) (g.C.Clock.may_give c.args.host.now.clock.now)
     ended.result.journal ended.result.status ended.result.bulletin c.now-now.result c.now-now.ensures.may
     c.in-Ok.settings c.in-Ok.ensures.settings (is_either c.in-Ok.settings (subst (IsClosed c.in-Ok.settings _) c.in-Err-OutOfMemory-reach_all.field-0-is c.in-Err-OutOfMemory-reach_all.ensures.closed)) ended.ensures.bulletin ended.ensures.journal
