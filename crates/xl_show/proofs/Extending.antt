@@ -53,13 +53,8 @@ abbrev length_test : List ℕ → Option WireRefusal
 length_test bytes = refused_if (nat_lt 5 (length bytes) && not (can_have (version_in bytes) (kind_in bytes) (length_in bytes))) (Length (kind_in bytes) (length_in bytes))
 
 length_in_stays : (xs ys : List ℕ) → 5 < length xs → length_in (xs ++ ys) ≡ length_in xs
-length_in_stays [] ys there = absurd (omega arith)
-length_in_stays (a ∷ []) ys there = absurd (omega arith)
-length_in_stays (a ∷ b ∷ []) ys there = absurd (omega arith)
-length_in_stays (a ∷ b ∷ c ∷ []) ys there = absurd (omega arith)
-length_in_stays (a ∷ b ∷ c ∷ d ∷ []) ys there = absurd (omega arith)
-length_in_stays (a ∷ b ∷ c ∷ d ∷ e ∷ []) ys there = absurd (omega arith)
 length_in_stays (a ∷ b ∷ c ∷ d ∷ e ∷ f ∷ xs) ys there = refl
+length_in_stays xs ys there = absurd (omega arith)
 
 module _ (xs ys : List ℕ) where
   byte_stays : (place : ℕ) → place < length xs → slice_index (xs ++ ys) place ≡ slice_index xs place

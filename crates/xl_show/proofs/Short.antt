@@ -1,5 +1,5 @@
 -- The frame that has begun gets no longer than the longest.
-use Rattle.std.proofs.Common.{◌≡◌, ◌∙◌, ◌+◌, ◌-◌, ◌≤◌, ◌<◌, ◌&&◌, ℕ, zero, suc, Bool, true, false, not, List, [], ◌∷◌, length, Option, Some, None, cond, if◌then◌else◌, nat_lt, refl, sym, ap, subst, arith}
+use Rattle.std.proofs.Common.{◌≡◌, ◌∙◌, ◌+◌, ◌-◌, ◌≤◌, ◌<◌, ◌&&◌, ℕ, zero, suc, Bool, true, false, not, List, [], ◌∷◌, length, Option, Some, None, if◌then◌else◌, nat_lt, refl, sym, ap, arith}
 use Rattle.std.proofs.lemmas.Bool.Decides.{nat_tests}
 use Rattle.xl_base.specs.Refusals.{refused_if, first_of}
 use Rattle.xl_wire.specs.declared.decoding.Decoded.TheVariants as decoded
@@ -7,7 +7,7 @@ use Rattle.xl_wire.specs.Lengths.{longest_frame}
 use Rattle.xl_wire.specs.declared.refusal.WireRefusal.{WireRefusal}
 use Rattle.xl_wire.specs.declared.refusal.WireRefusal.TheVariants.{Magic, Version, Kind, Length}
 use Rattle.xl_wire.specs.Frames.{decoded_of}
-use Rattle.xl_wire.specs.Heads.{differs, head_refusal, kind_in, lacking, length_in, raw_in, split_of, split_unless, version_in}
+use Rattle.xl_wire.specs.Heads.{differs, head_refusal, kind_in, lacking, length_in, raw_in, split_unless, version_in}
 use Rattle.xl_wire.specs.Heads.Split.{Need}
 use Rattle.xl_wire.specs.Kinds.{can_have, can_have_first, is_kind, is_version}
 use Rattle.xl_wire.specs.Raws.{RawFrame}
@@ -23,11 +23,7 @@ body_fits = by_version (λ version kind n. AROUND + n ≤ longest_frame) first (
 
 last_none : (a b c d e : Option WireRefusal) → first_of (a ∷ b ∷ c ∷ d ∷ e ∷ []) ≡ None → e ≡ None
 last_none None None None None None h = refl
-last_none (Some r) b c d e h = absurd cc
-last_none None (Some r) c d e h = absurd cc
-last_none None None (Some r) d e h = absurd cc
-last_none None None None (Some r) e h = absurd cc
-last_none None None None None (Some r) h = absurd cc
+last_none a b c d e h = absurd cc
 
 holds_if : (there lawful : Bool) (r : WireRefusal) → there ≡ true → refused_if (there && not lawful) r ≡ None → lawful ≡ true
 holds_if true true r there h = refl

@@ -87,23 +87,23 @@ place-same sent t n small e =
 pub same_bytes : (a b : List ℕ) → bytes_eq a b ≡ true → b ≡ a
 same_bytes a b e = sym ((bytes_eq-Decides a b).0 e)
 
-pub kind-same : (t : List ℕ) (full : Bool) → full_of t ≡ Ok full → kind_word full ≡ t
-kind-same t full e =
-    elim (bytes_eq t (codes "full")) as (λ b. bytes_eq t (codes "full") ≡ b → Gives (cond b (Ok true) (cond (bytes_eq t (codes "partial")) (Ok false) (Err (refusal.Choice t)))) full → kind_word full ≡ t) [
-      | true ↦ λ q h. ap kind_word (sym (same-ok true full h)) ∙ same_bytes t (codes "full") q
+-- one of two words
+word-same : (word : Bool → List ℕ) (t : List ℕ) (b : Bool)
+    → Gives (cond (bytes_eq t (word true)) (Ok true) (cond (bytes_eq t (word false)) (Ok false) (Err (refusal.Choice t)))) b
+    → word b ≡ t
+word-same word t b e =
+    elim (bytes_eq t (word true)) as (λ x. bytes_eq t (word true) ≡ x → Gives (cond x (Ok true) (cond (bytes_eq t (word false)) (Ok false) (Err (refusal.Choice t)))) b → word b ≡ t) [
+      | true ↦ λ q h. ap word (sym (same-ok true b h)) ∙ same_bytes t (word true) q
       | false ↦ λ _ h.
-          let p = passed (bytes_eq t (codes "partial")) false full (refusal.Choice t) h in
-          ap kind_word (sym p.1) ∙ same_bytes t (codes "partial") p.0
+          let p = passed (bytes_eq t (word false)) false b (refusal.Choice t) h in
+          ap word (sym p.1) ∙ same_bytes t (word false) p.0
     ] refl e
 
+pub kind-same : (t : List ℕ) (full : Bool) → full_of t ≡ Ok full → kind_word full ≡ t
+kind-same = word-same kind_word
+
 pub held-same : (t : List ℕ) (new : Bool) → new_of t ≡ Ok new → held_word new ≡ t
-held-same t new e =
-    elim (bytes_eq t (codes "new")) as (λ b. bytes_eq t (codes "new") ≡ b → Gives (cond b (Ok true) (cond (bytes_eq t (codes "old")) (Ok false) (Err (refusal.Choice t)))) new → held_word new ≡ t) [
-      | true ↦ λ q h. ap held_word (sym (same-ok true new h)) ∙ same_bytes t (codes "new") q
-      | false ↦ λ _ h.
-          let p = passed (bytes_eq t (codes "old")) false new (refusal.Choice t) h in
-          ap held_word (sym p.1) ∙ same_bytes t (codes "old") p.0
-    ] refl e
+held-same = word-same held_word
 
 pub mode-same : (t : List ℕ) (validating : Bool) → validating_of t ≡ Ok validating → (validating ≡ false) × (codes "observing" ≡ t)
 mode-same t validating e =

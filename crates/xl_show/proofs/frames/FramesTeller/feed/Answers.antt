@@ -1,5 +1,5 @@
 -- what was written, before what the bytes left tell, is what all tell, and each look and each taking keeps it so
-use Rattle.std.proofs.Common.{◌≡◌, ◌++◌, ℕ, List, [], ◌∷◌, length, length-drop, ap, subst, arith, refl, sym, ◌∙◌}
+use Rattle.std.proofs.Common.{◌≡◌, ◌++◌, ℕ, List, [], ◌∷◌, length, length-drop, ap, subst, arith, refl, ◌∙◌}
 use Rattle.std.proofs.lemmas.Bool.Decides.{nat_tests}
 use Rattle.std.proofs.lemmas.List.{take_rest}
 use Rattle.xl_lines.specs.Running.{Tells, Puts}

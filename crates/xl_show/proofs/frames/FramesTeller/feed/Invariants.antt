@@ -1,4 +1,4 @@
-use Rattle.std.proofs.Common.{◌≡◌, ◌+◌, ◌*◌, ◌≤◌, ◌++◌, ℕ, List, length}
+use Rattle.std.proofs.Common.{◌≡◌, ◌+◌, ◌*◌, ◌++◌, ℕ, List, length}
 use Rattle.xl_lines.specs.Running.{Tells, Puts}
 use Rattle.xl_show.specs.Shown.{told_from}
 use Rattle.xl_show.specs.Soon.{soon_from}
