@@ -34,5 +34,5 @@ abbrev pub content : Returns → Line → List ℕ
 content returns line = cond line.ended (before_newline returns line.bytes) line.bytes
 
 -- all of a line whose last bytes are these: they stand in it already if it had begun
-abbrev pub whole_line : List ℕ → List ℕ → List ℕ
-whole_line line last = cond (length line == 0) last line
+abbrev pub whole_line : Bool → List ℕ → List ℕ → List ℕ
+whole_line had_begun line last = cond had_begun line last

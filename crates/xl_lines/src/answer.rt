@@ -58,7 +58,10 @@ pub fn answer<M: Machine, O: Sink>(
     }
     text.clear();
     let next = machine.line(line, ended, text)?;
-    write_all(output, text.as_bytes())?;
+    let answer = text.as_bytes();
+    if !answer.is_empty() {
+        write_all(output, answer)?;
+    }
     Ok(next)
 }
 

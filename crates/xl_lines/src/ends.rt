@@ -34,11 +34,8 @@ pub fn before_newline(returns: Returns, line: &[u8]) -> &[u8]
 }
 
 /// The line that ends with these bytes, its newline left out. They stand in it already if it had begun.
-pub fn whole_line<'a>(line: &'a [u8], last: &'a [u8]) -> &'a [u8]
-    ensures { result.now ≡ whole_line line.now last.now }
+pub fn whole_line<'a>(had_begun: bool, line: &'a [u8], last: &'a [u8]) -> &'a [u8]
+    ensures { result.now ≡ whole_line had_begun line.now last.now }
 {
-    if line.is_empty() {
-        return last;
-    }
-    line
+    if had_begun { line } else { last }
 }

@@ -78,20 +78,22 @@ impl<M: Machine> Lines<M> {
         Ok(())
     }
 
-    /// Adds the last bytes of a line to it, without its newline, if it had begun. Else they are all of it, and aren't
-    /// copied.
-    fn join(&mut self, bytes: &[u8]) -> Result<(), OutOfMemory>
+    /// Adds the last bytes of a line to it, without its newline, if it had begun, which is answered. Else they are all
+    /// of it, and aren't copied.
+    fn join(&mut self, bytes: &[u8]) -> Result<bool, OutOfMemory>
         requires one_line { list_any (λ byte. byte == 10) bytes.now ≡ false }
         requires short { vec_len self.old.line + length bytes.now ≤ self.old.limits.bytes }
-        ensures ok { OnOk result (whole_line self.new.line.items bytes.now ≡ self.old.line.items ++ bytes.now) }
+        ensures ok { IfOk result (λ had_begun.
+            whole_line had_begun self.new.line.items bytes.now ≡ self.old.line.items ++ bytes.now) }
         ensures limits { self.new.limits ≡ self.old.limits }
         ensures left { self.new.left ≡ self.old.left }
         ensures machine { self.new.machine ≡ self.old.machine }
     {
         if self.line.is_empty() {
-            return Ok(());
+            return Ok(false);
         }
-        self.put(bytes)
+        self.put(bytes)?;
+        Ok(true)
     }
 
     /// Takes the next bytes up to the first newline, and with it.
@@ -124,8 +126,9 @@ impl<M: Machine> Lines<M> {
             return Ok(Part::Taken(count));
         }
         let last = &bytes[..count];
-        self.join(last)?;
-        let line = before_newline(self.limits.returns, whole_line(&self.line, last));
+        let had_begun = self.join(last)?;
+        let whole = whole_line(had_begun, &self.line, last);
+        let line = before_newline(self.limits.returns, whole);
         match answer(
             &mut self.machine,
             output,

@@ -37,4 +37,4 @@ pub returns-in_err-write_all-clause-less : goal.returns-in_err-write_all-clause-
 returns-in_err-write_all-clause-less g c is =
     let some : 0 < c.args.left = grind (arith, nat_tests) in
     less_answered c.in_ok-next.next _ _ _ (c.in_ok-next.ensures ∙ sym (may_come g.M.Machine.rules c.args.left (g.M.Machine.state c.args.machine.now) c.args.line.now c.args.ended some))
-    (subst (λ bytes. GrewByLess (g.O.Sink.held c.args.output.now) (g.O.Sink.held c.write_all.new.sink) bytes) c.as_bytes.ensures c.in_err-write_all.ensures.less)
+    (subst (λ bytes. GrewByLess (g.O.Sink.held c.args.output.now) (g.O.Sink.held c.write_all.new.sink) bytes) c.as_bytes-answer.ensures c.in_err-write_all.ensures.less)

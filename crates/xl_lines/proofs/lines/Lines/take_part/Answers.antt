@@ -33,35 +33,35 @@ cut g c rest =
     cut_newline c.args.bytes.now c.newline_in-newline.result c.unwrap_or-count.result (finds_newline c.args.bytes.now _ c.newline_in-newline.ensures) found c.unwrap_or-count.ensures rest
 
 -- they are joined to what had come of it
-whole : (g : _) (c : After-answer g) → c.whole_line.result.now ≡ c.args.self.now.line.items ++ take c.unwrap_or-count.result c.args.bytes.now
-whole g c = c.whole_line.ensures ∙ ap (λ line. whole_line line (take c.unwrap_or-count.result c.args.bytes.now)) c.deref.ensures.value ∙ c.in_ok-join.ensures.ok
+whole : (g : _) (c : After-answer g) → c.whole_line-whole.result.now ≡ c.args.self.now.line.items ++ take c.unwrap_or-count.result c.args.bytes.now
+whole g c = c.whole_line-whole.ensures ∙ ap (λ line. whole_line c.in_ok-had_begun.had_begun line (take c.unwrap_or-count.result c.args.bytes.now)) c.deref.ensures.value ∙ c.in_ok-had_begun.ensures.ok
 
 -- so with its newline it is the next line that is told
-ends : (g : _) (c : After-answer g) → LineEnds c.join.new.self.limits c.whole_line.result.now c.before_newline-line.result.now
+ends : (g : _) (c : After-answer g) → LineEnds c.join.new.self.limits c.whole_line-whole.result.now c.before_newline-line.result.now
 ends g c =
     let self = c.args.self.now in
     let last = take c.unwrap_or-count.result c.args.bytes.now in
     let short : vec_len self.line + c.unwrap_or-count.result ≤ self.limits.bytes = grind (arith, nat_tests) in
     record {
       one_line = rw (whole g c) (one_line-append self.line.items last self.one_line (one_line-first c.args.bytes.now c.newline_in-newline.result c.unwrap_or-count.result (finds_newline c.args.bytes.now _ c.newline_in-newline.ensures) c.unwrap_or-count.ensures));
-      short = rw (whole g c, c.in_ok-join.ensures.limits) (omega (arith, short, self.line.ok.0, length-append self.line.items last, length-take c.unwrap_or-count.result c.args.bytes.now, min-le_left c.unwrap_or-count.result (length c.args.bytes.now)));
+      short = rw (whole g c, c.in_ok-had_begun.ensures.limits) (omega (arith, short, self.line.ok.0, length-append self.line.items last, length-take c.unwrap_or-count.result c.args.bytes.now, min-le_left c.unwrap_or-count.result (length c.args.bytes.now)));
       handed_on = c.before_newline-line.ensures;
     }
 
 -- of all the bytes that is told which is told of it
-newline : (g : _) (c : After-answer g) (rest : List ℕ) → told_at c.args.self.now.limits g.M.Machine.rules c.args.self.now.left (g.M.Machine.state c.args.self.now.machine) c.args.self.now.line.items (c.args.bytes.now ++ rest) ≡ told_at c.join.new.self.limits g.M.Machine.rules c.join.new.self.left (g.M.Machine.state c.join.new.self.machine) c.whole_line.result.now (10 ∷ (drop (c.unwrap_or-count.result + 1) c.args.bytes.now ++ rest))
+newline : (g : _) (c : After-answer g) (rest : List ℕ) → told_at c.args.self.now.limits g.M.Machine.rules c.args.self.now.left (g.M.Machine.state c.args.self.now.machine) c.args.self.now.line.items (c.args.bytes.now ++ rest) ≡ told_at c.join.new.self.limits g.M.Machine.rules c.join.new.self.left (g.M.Machine.state c.join.new.self.machine) c.whole_line-whole.result.now (10 ∷ (drop (c.unwrap_or-count.result + 1) c.args.bytes.now ++ rest))
 newline g c rest =
     let self = c.args.self.now in
     let joined = c.join.new.self in
     ap (told_at self.limits g.M.Machine.rules self.left (g.M.Machine.state self.machine) self.line.items) (cut g c rest)
-    ∙ told_joined self.limits g.M.Machine.rules self.left (g.M.Machine.state self.machine) self.line.items (take c.unwrap_or-count.result c.args.bytes.now) joined.limits joined.left c.whole_line.result.now c.in_ok-join.ensures.limits c.in_ok-join.ensures.left (whole g c) (g.M.Machine.state joined.machine) (ap g.M.Machine.state c.in_ok-join.ensures.machine) (10 ∷ (drop (c.unwrap_or-count.result + 1) c.args.bytes.now ++ rest))
+    ∙ told_joined self.limits g.M.Machine.rules self.left (g.M.Machine.state self.machine) self.line.items (take c.unwrap_or-count.result c.args.bytes.now) joined.limits joined.left c.whole_line-whole.result.now c.in_ok-had_begun.ensures.limits c.in_ok-had_begun.ensures.left (whole g c) (g.M.Machine.state joined.machine) (ap g.M.Machine.state c.in_ok-had_begun.ensures.machine) (10 ∷ (drop (c.unwrap_or-count.result + 1) c.args.bytes.now ++ rest))
 
-newline_soon : (g : _) (c : After-answer g) (rest : List ℕ) → soon_at c.args.self.now.limits g.M.Machine.rules c.args.self.now.left (g.M.Machine.state c.args.self.now.machine) c.args.self.now.line.items (c.args.bytes.now ++ rest) ≡ soon_at c.join.new.self.limits g.M.Machine.rules c.join.new.self.left (g.M.Machine.state c.join.new.self.machine) c.whole_line.result.now (10 ∷ (drop (c.unwrap_or-count.result + 1) c.args.bytes.now ++ rest))
+newline_soon : (g : _) (c : After-answer g) (rest : List ℕ) → soon_at c.args.self.now.limits g.M.Machine.rules c.args.self.now.left (g.M.Machine.state c.args.self.now.machine) c.args.self.now.line.items (c.args.bytes.now ++ rest) ≡ soon_at c.join.new.self.limits g.M.Machine.rules c.join.new.self.left (g.M.Machine.state c.join.new.self.machine) c.whole_line-whole.result.now (10 ∷ (drop (c.unwrap_or-count.result + 1) c.args.bytes.now ++ rest))
 newline_soon g c rest =
     let self = c.args.self.now in
     let joined = c.join.new.self in
     ap (soon_at self.limits g.M.Machine.rules self.left (g.M.Machine.state self.machine) self.line.items) (cut g c rest)
-    ∙ soon_joined self.limits g.M.Machine.rules self.left (g.M.Machine.state self.machine) self.line.items (take c.unwrap_or-count.result c.args.bytes.now) joined.limits joined.left c.whole_line.result.now c.in_ok-join.ensures.limits c.in_ok-join.ensures.left (whole g c) (g.M.Machine.state joined.machine) (ap g.M.Machine.state c.in_ok-join.ensures.machine) (10 ∷ (drop (c.unwrap_or-count.result + 1) c.args.bytes.now ++ rest))
+    ∙ soon_joined self.limits g.M.Machine.rules self.left (g.M.Machine.state self.machine) self.line.items (take c.unwrap_or-count.result c.args.bytes.now) joined.limits joined.left c.whole_line-whole.result.now c.in_ok-had_begun.ensures.limits c.in_ok-had_begun.ensures.left (whole g c) (g.M.Machine.state joined.machine) (ap g.M.Machine.state c.in_ok-had_begun.ensures.machine) (10 ∷ (drop (c.unwrap_or-count.result + 1) c.args.bytes.now ++ rest))
 
 pub put-requires-clause-one_line : goal.put-requires-clause-one_line
 put-requires-clause-one_line g c =
@@ -73,7 +73,7 @@ returns-in-Line-clause-fewer g c =
     let joined = c.join.new.self in
     let none : vec_len c.clear.new.self ≡ 0 = omega (arith, c.clear.new.self.ok.0, ap (λ items. length items) c.clear.ensures.items) in
     let short : vec_len self.line + c.unwrap_or-count.result ≤ self.limits.bytes = grind (arith, nat_tests) in
-    fewer self.limits joined.limits self.left (joined.left - 1) (vec_len self.line) (vec_len c.clear.new.self) c.unwrap_or-count.result c.in_ok-join.ensures.limits (omega (arith, c.in_ok-join.ensures.left, c.in_ok-answer.ensures.within c.in-Line.is)) none short
+    fewer self.limits joined.limits self.left (joined.left - 1) (vec_len self.line) (vec_len c.clear.new.self) c.unwrap_or-count.result c.in_ok-had_begun.ensures.limits (omega (arith, c.in_ok-had_begun.ensures.left, c.in_ok-answer.ensures.within c.in-Line.is)) none short
 
 pub join-requires-clause-one_line : goal.join-requires-clause-one_line
 join-requires-clause-one_line g c = one_line-first c.args.bytes.now c.newline_in-newline.result c.unwrap_or-count.result (finds_newline c.args.bytes.now _ c.newline_in-newline.ensures) c.unwrap_or-count.ensures
