@@ -1,5 +1,5 @@
 // What is noted of the members of a node's list.
-ghost use Rattle.std.specs.Prelude.{◌≡◌, map, option_map, IfOk};
+ghost use Rattle.std.specs.Prelude.{◌≡◌, map, option_map, IfOk, OnOk};
 ghost use Rattle.xl_noted.specs.Noted.{member_noted, noted_of, position_before, row_before};
 ghost use Rattle.xl_noted.specs.Same.{is_same_position as is_same_position_by, is_same_row as is_same_row_by};
 
@@ -30,26 +30,38 @@ impl NotedMember {
     }
 }
 
-/// What is noted of these members.
+/// Notes these members, and nobody else.
 fn note_each(
-    alloc: Global,
     node: &Node<Trie>,
     members: &[NodeNo],
-) -> Result<Vec<NotedMember>, OutOfMemory>
-    ensures { IfOk result (λ noted. noted.items ≡ map (member_noted node.now) members.now) }
+    noted: &mut Vec<NotedMember>,
+) -> Result<(), OutOfMemory>
+    ensures { OnOk result (noted.new.items ≡ map (member_noted node.now) members.now) }
 {
-    let mut noted = Vec::with_capacity(alloc, members.len())?;
+    noted.clear();
     for member in members {
         noted.push(NotedMember::of(node, *member))?;
     }
-    Ok(noted)
+    Ok(())
 }
 
 /// What is noted of the members of its list.
 pub fn note_members(alloc: Global, node: &Node<Trie>) -> Result<Vec<NotedMember>, OutOfMemory>
     ensures { IfOk result (λ noted. noted.items ≡ map (member_noted node.now) node.now.list.members) }
 {
-    note_each(alloc, node, node.list().members())
+    let mut noted = Vec::new(alloc);
+    note_each(node, node.list().members(), &mut noted)?;
+    Ok(noted)
+}
+
+/// Notes the members of its list in place of those that were noted.
+pub fn note_members_again(
+    node: &Node<Trie>,
+    noted: &mut Vec<NotedMember>,
+) -> Result<(), OutOfMemory>
+    ensures { OnOk result (noted.new.items ≡ map (member_noted node.now) node.now.list.members) }
+{
+    note_each(node, node.list().members(), noted)
 }
 
 /// What was noted of a member, if it stood on the list.

@@ -1,9 +1,9 @@
 // What is noted of a node before an event.
-ghost use Rattle.std.specs.Prelude.{◌≡◌, IfOk};
+ghost use Rattle.std.specs.Prelude.{◌≡◌, IfOk, OnOk};
 ghost use Rattle.xl_noted.specs.Noted.{noted, round_noted};
 ghost use Rattle.xl_noted.specs.Seen.{noted_seen, round_seen};
 
-use crate::members::{NotedMember, note_members};
+use crate::members::{NotedMember, note_members, note_members_again};
 use std::alloc::Global;
 use xl_base::{Millis, OutOfMemory, Seq, TxId};
 use xl_core::{LastReport, Node, Report};
@@ -67,6 +67,30 @@ impl NotedRound {
             agreeing: round.agreeing(),
         })
     }
+
+    /// A round is noted in place of this one.
+    fn renew(&mut self, round: &Round) -> Result<(), OutOfMemory>
+        ensures { OnOk result (round_seen self.new ≡ round_noted round.now) }
+    {
+        self.phase = round.phase();
+        self.mode = round.mode();
+        self.started = round.started();
+        self.position = round.position();
+        hold(&mut self.own, round.own_set())?;
+        hold(&mut self.pending, round.pending())?;
+        self.proposers = round.proposers();
+        self.agreeing = round.agreeing();
+        Ok(())
+    }
+}
+
+/// A vector holds these ids, and no others.
+fn hold(ids: &mut Vec<TxId>, held: &[TxId]) -> Result<(), OutOfMemory>
+    ensures { OnOk result (ids.new.items ≡ held.now) }
+{
+    ids.clear();
+    ids.extend_from_slice(held)?;
+    Ok(())
 }
 
 impl Noted {
@@ -85,5 +109,20 @@ impl Noted {
             preferred: node.preferred(),
             round: NotedRound::of(alloc, node.round())?,
         })
+    }
+
+    /// What a node holds now is noted in place of what was noted, in the same memory if there is enough.
+    pub fn renew(&mut self, node: &Node<Trie>) -> Result<(), OutOfMemory>
+        ensures { OnOk result (noted_seen self.new ≡ noted node.now) }
+    {
+        self.time = node.time();
+        self.kept = node.kept();
+        self.failed_save = node.failed_save();
+        self.list = node.list().copy();
+        note_members_again(node, &mut self.members)?;
+        self.ledgers = node.registry().len();
+        self.last = *node.last();
+        self.preferred = node.preferred();
+        self.round.renew(node.round())
     }
 }

@@ -25,6 +25,7 @@ use Rattle.xl_core.specs.Sending.{blank_frame, has_spelling, sealed_bytes}
 use Rattle.xl_core.proofs.Spelling.{sealed_raw}
 use Rattle.xl_tags.specs.Sealing.{sealed}
 use Rattle.xl_told.specs.Bodies.{body_text}
+use Rattle.xl_tell.specs.Echoes.{parts_text}
 
 body_said : (names : List Named) (f : RawFrame) (tag : List ℕ) (body : Result Body WireRefusal) → said_text names (with_body (with_tag f tag) body) ≡ said_text names (with_body f body)
 body_said names f tag (Ok body) = refl
@@ -52,6 +53,14 @@ module _ (names : List Named) (ring : Ring) (bytes : List ℕ) (fits : IsBytes b
 
   pub said_sealed : said_text names (decoded_of (bytes_as_sealed ring bytes)) ≡ said_text names (decoded_of bytes)
   said_sealed = by_split (split_of bytes) refl
+
+-- what a frame says, by its parts
+parts_said : (names : List Named) (f : RawFrame) (body : Result Body WireRefusal) → said_text names (with_body f body) ≡ parts_text names body
+parts_said names f (Ok body) = refl
+parts_said names f (Err why) = refl
+
+pub bytes_said : (names : List Named) (bytes : List ℕ) (f : RawFrame) → split_of bytes ≡ Whole f → said_text names (decoded_of bytes) ≡ parts_text names (body_of f.kind f.body)
+bytes_said names bytes f is = ap (λ (s : Split). said_text names (with_bodies s)) is ∙ parts_said names f (body_of f.kind f.body)
 
 -- a frame that is sealed by a ring says its body
 pub said_body : (names : List Named) (ring : Ring) (from to : ℕ) (body : Body) → has_spelling from to body ≡ true → IsBody body → said_text names (decoded_of (sealed_bytes ring from to body)) ≡ body_text names body

@@ -1,15 +1,15 @@
 // What is noted of the node at which a part of an event happens.
-ghost use Rattle.std.specs.Prelude.{◌≡◌, ◌≤◌, ◌/◌, ℕ, Bool, max, true, IfOk, IsTrue, OnOk, Some};
+ghost use Rattle.std.specs.Prelude.{◌≡◌, ◌≤◌, ℕ, Bool, IfOk, IsTrue, OnOk, Some};
 ghost use Rattle.xl_base.specs.declared.ids.LedgerId.{LedgerId};
 ghost use Rattle.xl_core.specs.Hearing.{speech_of};
 ghost use Rattle.xl_core.specs.Node.{Issue, Timer};
-ghost use Rattle.xl_lists.specs.Lists.{IsValid, is_on};
-ghost use Rattle.xl_noted.specs.Asking.{is_open as is_open_by};
-ghost use Rattle.xl_rounds.specs.Positions.{count};
+ghost use Rattle.xl_noted.specs.Noted.{noted};
+ghost use Rattle.xl_noted.specs.Seen.{noted_seen};
 ghost use Rattle.xl_tell.specs.Before.{Delivers, IsBrief, Says, SaysSet, Tells, TellsOf, asked_of, frame_noted, heard_noted, number_of};
 ghost use Rattle.xl_tell.specs.Nodes.{node_of};
 ghost use Rattle.xl_world.specs.Sending.{body_said};
 
+use crate::brief::{is_beat, is_brief_at, is_within};
 use crate::delivery::{frame_of, is_known, is_set, saying};
 use crate::nodes::{node_asked, node_of as node_number};
 use crate::sent::Speller;
@@ -17,7 +17,7 @@ use std::alloc::Global;
 use xl_base::{Millis, NodeNo, OutOfMemory};
 use xl_core::Node;
 use xl_noted::{
-    Noted, NotedBeat, NotedIssue, NotedLedgers, NotedPending, NotedPosition, NotedVote, is_open,
+    Noted, NotedBeat, NotedIssue, NotedLedgers, NotedPending, NotedPosition, NotedVote,
 };
 use xl_sched::{Ask, Event, What};
 use xl_told::Hashed;
@@ -89,25 +89,20 @@ impl Before {
     }
 }
 
-/// Whether the member is on the node's list, and the moment in the second of its time.
-fn is_brief(node: &Node<Trie>, at: Millis, member: NodeNo) -> bool
-    ensures listed { IsTrue result → is_on node.now.list.members member ≡ true }
-    ensures within { IsTrue result → max node.now.time at / 1000 ≡ node.now.time / 1000 }
-    ensures valid { IsValid node.now.list }
+/// All that a node holds, in the place of what was noted before, if there is one.
+fn note_all(
+    alloc: Global,
+    node: &Node<Trie>,
+    spare: &mut Option<Box<Noted>>,
+) -> Result<Box<Noted>, OutOfMemory>
+    ensures { IfOk result (λ all. noted_seen all.value ≡ noted node.now) }
 {
-    let list = node.list();
-    let _members = list.members();
-    list.has(member) && node.time().max(at) / 1000 == node.time() / 1000
-}
-
-/// Whether the node of a number is there, and what it hears of the member at a moment changes nothing of the others.
-fn is_brief_at(world: &World, number: NodeNo, at: Millis, member: NodeNo) -> bool
-    ensures { IsTrue result → IsBrief world.now number at member }
-{
-    let _reports = world.reports();
-    match world.node(number) {
-        Some(core) => is_brief(core.node(), at, member),
-        None => false,
+    match spare.take() {
+        Some(mut all) => {
+            all.renew(node)?;
+            Ok(all)
+        }
+        None => Ok(Box::new(alloc, Noted::of(alloc, node)?)?),
     }
 }
 
@@ -117,6 +112,7 @@ fn note_whole(
     world: &World,
     event: &Event,
     number: NodeNo,
+    spare: &mut Option<Box<Noted>>,
     before: &mut Before,
 ) -> Result<(), OutOfMemory>
     requires { node_of world.now event.now.what ≡ Some number }
@@ -124,7 +120,7 @@ fn note_whole(
 {
     match world.node(number) {
         Some(core) => {
-            let noted = Box::new(alloc, Noted::of(alloc, core.node())?)?;
+            let noted = note_all(alloc, core.node(), spare)?;
             *before = Before::Whole { number, noted };
             Ok(())
         }
@@ -239,7 +235,7 @@ fn note_listener(
         note_set(world, event, frame, before);
         return Ok(());
     }
-    note_whole(alloc, world, event, frame.to(), before)
+    note_whole(alloc, world, event, frame.to(), &mut speller.spare, before)
 }
 
 /// What is noted of the receiver of a frame that is delivered.
@@ -257,14 +253,7 @@ fn note_receiver(
     if is_brief_at(world, frame.to(), event.at, frame.from()) {
         return note_listener(alloc, world, event, frame, speller, before);
     }
-    note_whole(alloc, world, event, frame.to(), before)
-}
-
-/// Whether the moment is in the second of the node's time.
-fn is_within(node: &Node<Trie>, at: Millis) -> bool
-    ensures { IsTrue result → max node.now.time at / 1000 ≡ node.now.time / 1000 }
-{
-    node.time().max(at) / 1000 == node.time() / 1000
+    note_whole(alloc, world, event, frame.to(), &mut speller.spare, before)
 }
 
 /// What an issue may change of the node of this number, in the second of its time. Answers whether that was noted.
@@ -280,16 +269,6 @@ fn note_issue(node: &Node<Trie>, number: NodeNo, at: Millis, before: &mut Before
     let noted = NotedIssue::of(node);
     *before = Before::Issue { number, noted };
     true
-}
-
-/// Whether a timer at that moment changes the node's round alone, in which no member has a position.
-fn is_beat(node: &Node<Trie>, at: Millis) -> bool
-    ensures opened { IsTrue result → is_open_by node.now.round.phase ≡ true }
-    ensures nobody { IsTrue result → count node.now.round.positions ≡ 0 }
-    ensures within { IsTrue result → max node.now.time at / 1000 ≡ node.now.time / 1000 }
-{
-    let round = node.round();
-    is_open(round) && round.proposers() == 0 && is_within(node, at)
 }
 
 /// What a timer may change of the node of this number, if that is its round alone. Answers whether that was noted.
@@ -333,6 +312,7 @@ fn note_asked(
     world: &World,
     event: &Event,
     ask: &Ask,
+    spare: &mut Option<Box<Noted>>,
     before: &mut Before,
 ) -> Result<(), OutOfMemory>
     requires { event.now.what ≡ What.Ask ask.now }
@@ -347,7 +327,7 @@ fn note_asked(
     if note_ask(alloc, core.node(), number, event.at, ask, before)? {
         return Ok(());
     }
-    note_whole(alloc, world, event, number, before)
+    note_whole(alloc, world, event, number, spare, before)
 }
 
 /// What is noted of the node of a part, if there is one.
@@ -355,12 +335,13 @@ fn note_node(
     alloc: Global,
     world: &World,
     event: &Event,
+    spare: &mut Option<Box<Noted>>,
     before: &mut Before,
 ) -> Result<(), OutOfMemory>
     ensures { OnOk result (Tells world.now event.now before.new) }
 {
     match node_number(world, &event.what) {
-        Some(number) => note_whole(alloc, world, event, number, before),
+        Some(number) => note_whole(alloc, world, event, number, spare, before),
         None => {
             *before = Before::Nobody;
             Ok(())
@@ -373,13 +354,14 @@ fn note_else(
     alloc: Global,
     world: &World,
     event: &Event,
+    spare: &mut Option<Box<Noted>>,
     before: &mut Before,
 ) -> Result<(), OutOfMemory>
     ensures { OnOk result (Tells world.now event.now before.new) }
 {
     match &event.what {
-        What::Ask(ask) => note_asked(alloc, world, event, ask, before),
-        _ => note_node(alloc, world, event, before),
+        What::Ask(ask) => note_asked(alloc, world, event, ask, spare, before),
+        _ => note_node(alloc, world, event, spare, before),
     }
 }
 
@@ -395,6 +377,6 @@ pub fn note_before(
 {
     match frame_of(world, &event.what) {
         Some(frame) => note_receiver(alloc, world, event, &frame, speller, before),
-        None => note_else(alloc, world, event, before),
+        None => note_else(alloc, world, event, &mut speller.spare, before),
     }
 }

@@ -7,6 +7,7 @@
 #![tactic(auto)]
 
 mod before;
+mod brief;
 mod command;
 mod delivery;
 mod echo;

@@ -12,13 +12,14 @@ ghost use Rattle.xl_world.specs.Sending.{body_said, said_to, sent_as};
 use crate::echo::Echoes;
 use std::alloc::Global;
 use xl_base::{NodeNo, OutOfMemory};
+use xl_noted::Noted;
 use xl_sched::Reader;
-use xl_told::{Hashed, Lead, push_numbered, push_of, push_said};
+use xl_told::{Hashed, Lead, push_numbered, push_of};
 use xl_wire::LONGEST_FRAME;
 use xl_world::{Said, Sent, SentFrames};
 
-/// What is kept to spell events and what frames say: a room for a frame, what was hashed last, the first words of the
-/// last event that was taken apart, and what frames said last.
+/// What is kept to note nodes and to spell events and what frames say: a room for a frame, what was hashed last, the
+/// first words of the last event that was taken apart, what frames said last, and what was noted last of a whole node.
 #[derive(Drop)]
 pub struct Speller {
     // A room of its own would be cleared for each frame.
@@ -26,6 +27,8 @@ pub struct Speller {
     pub hashed: Hashed,
     pub lead: Lead,
     pub echoes: Echoes,
+    // It has several vectors, whose memory serves again.
+    pub spare: Option<Box<Noted>>,
 }
 
 impl Speller {
@@ -36,6 +39,7 @@ impl Speller {
             hashed: Hashed::none(alloc)?,
             lead: Lead::of(alloc, 0, 0)?,
             echoes: Echoes::none(alloc),
+            spare: None,
         })
     }
 }
@@ -75,15 +79,18 @@ fn push_value(
 fn push_kept(
     text: &mut String,
     reader: &Reader,
+    echoes: &mut Echoes,
     hashed: &mut Hashed,
     frame: &Sent<'_>,
     kept: &[u8],
 ) -> Result<(), OutOfMemory>
-    requires { frame.now ≡ sent_as frame.now.from frame.now.to kept.now }
-    ensures { OnOk result (string_bytes text.new
+    requires kept { frame.now ≡ sent_as frame.now.from frame.now.to kept.now }
+    requires echoes { AreEchoes reader.now.names echoes.old }
+    ensures echoes { OnOk result (AreEchoes reader.now.names echoes.new) }
+    ensures told { OnOk result (string_bytes text.new
         ≡ string_bytes text.old ++ said_text reader.now.names (decoded_of frame.now.bytes)) }
 {
-    push_said(text, reader, hashed, kept)
+    echoes.push_bytes(text, reader, hashed, kept)
 }
 
 /// What a frame says that is kept as bytes.
@@ -100,7 +107,14 @@ fn push_bytes(
 {
     let length = frame.put(&mut speller.room);
     let kept = &speller.room[..length];
-    push_kept(text, reader, &mut speller.hashed, frame, kept)?;
+    push_kept(
+        text,
+        reader,
+        &mut speller.echoes,
+        &mut speller.hashed,
+        frame,
+        kept,
+    )?;
     Ok(())
 }
 
@@ -156,8 +170,8 @@ fn push_frame(
     Ok(())
 }
 
-/// The frames that were sent, except the first of this number.
-pub fn push_sent(
+/// The frames from a place on.
+fn push_frames(
     text: &mut String,
     reader: &Reader,
     speller: &mut Speller,
@@ -175,4 +189,22 @@ pub fn push_sent(
         push_frame(text, reader, speller, place + 1, &frame)?;
     }
     Ok(())
+}
+
+/// The frames that were sent, except the first of this number.
+pub fn push_sent(
+    text: &mut String,
+    reader: &Reader,
+    speller: &mut Speller,
+    sent: &SentFrames,
+    before: usize,
+) -> Result<(), OutOfMemory>
+    ensures { OnOk result (string_bytes text.new
+        ≡ string_bytes text.old ++ sent_lines reader.now.names (before + 1) (drop before sent.now)) }
+{
+    // Most events send nothing, and needn't forget what was said.
+    if sent.len() <= before {
+        return Ok(());
+    }
+    push_frames(text, reader, speller, sent, before)
 }

@@ -33,15 +33,15 @@ returns-clause-told c =
     let there : world_of next ≡ after_event w e = ap world_of leads in
     let text0 = string_bytes c.args.text.now in
     let text1 = string_bytes c.push_event.new.text in
-    let text2 = string_bytes c.push_outcomes.new.text in
+    let text2 = string_bytes c.push_reported.new.text in
     let text3 = string_bytes c.push_sent.new.text in
     let text4 = string_bytes c.push_told.new.text in
     let told = c.as_slice.result.now in
     let first : text1 ≡ text0 ++ event_line names n e =
     written_in (λ (ns : List Named) (k : ℕ). event_line ns k e) c.reader-reader.result.now r.reading c.lines.result text0 text1 c.reader-reader.ensures c.lines.ensures.value c.in_ok-push_event.ensures in
     let came : text2 ≡ text1 ++ outcome_lines names n (outcomes w e) =
-    written_in (λ (ns : List Named) (k : ℕ). outcome_lines ns k told) c.reader-reader-2.result.now next.reading c.lines-2.result text1 text2 c.reader-reader-2.ensures c.lines-2.ensures.value c.in_ok-push_outcomes.ensures
-    ∙ (ap (λ (k : Reading). text1 ++ outcome_lines k.names k.lines told) reading
+    c.in_ok-push_reported.ensures
+    ∙ (ap (λ (k : Reading). text1 ++ outcome_lines k.names k.lines told) (c.reader-reader-2.ensures ∙ reading)
     ∙ ap (λ (os : List Outcome). text1 ++ outcome_lines names n os) (c.as_slice.ensures ∙ c.in_ok-happened.ensures.told)) in
     let words : c.reader-reader-2.result.now.names ≡ names = ap (λ (k : Reading). k.names) (c.reader-reader-2.ensures ∙ reading) in
     let frames : text3 ≡ text2 ++ new_frames names w (after_event w e) =

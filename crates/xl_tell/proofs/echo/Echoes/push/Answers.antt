@@ -7,6 +7,7 @@ returns-in_ok-push-in-Proposal-clause-echoes c = record {
   validation = c.requires.validation;
   header = c.requires.header;
   tx = c.requires.tx;
+  parts = c.requires.parts;
 }
 
 pub returns-in_ok-push-in-Validation-clause-echoes : goal.returns-in_ok-push-in-Validation-clause-echoes
@@ -15,6 +16,7 @@ returns-in_ok-push-in-Validation-clause-echoes c = record {
   validation = c.in_ok-push-in-Validation.ensures.echo;
   header = c.requires.header;
   tx = c.requires.tx;
+  parts = c.requires.parts;
 }
 
 pub returns-in_ok-push-in-Header-clause-echoes : goal.returns-in_ok-push-in-Header-clause-echoes
@@ -23,6 +25,7 @@ returns-in_ok-push-in-Header-clause-echoes c = record {
   validation = c.requires.validation;
   header = c.in_ok-push-in-Header.ensures.echo;
   tx = c.requires.tx;
+  parts = c.requires.parts;
 }
 
 pub returns-in_ok-push-in-Tx-clause-echoes : goal.returns-in_ok-push-in-Tx-clause-echoes
@@ -31,4 +34,5 @@ returns-in_ok-push-in-Tx-clause-echoes c = record {
   validation = c.requires.validation;
   header = c.requires.header;
   tx = c.in_ok-push-in-Tx.ensures.echo;
+  parts = c.requires.parts;
 }

@@ -1,6 +1,6 @@
 -- the world isn't spent, since it has that node
 use Rattle.xl_tell.proofs.Heard.{brief_so, unspent}
-use Rattle.xl_tell.proofs.before.is_brief_at.Goals as goal
+use Rattle.xl_tell.proofs.brief.is_brief_at.Goals as goal
 
 pub returns-in-Some : goal.returns-in-Some
 returns-in-Some c =

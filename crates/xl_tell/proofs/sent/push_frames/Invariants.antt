@@ -2,7 +2,7 @@ use Rattle.std.proofs.Common.{◌≡◌, ◌+◌, ◌++◌, drop}
 use Rattle.std.specs.String.{string_bytes}
 use Rattle.xl_tell.specs.Echoes.{AreEchoes}
 use Rattle.xl_tell.specs.Parts.{sent_lines}
-use Rattle.xl_tell.proofs.sent.push_sent.Given as goal
+use Rattle.xl_tell.proofs.sent.push_frames.Given as goal
 
 -- the frames from this place on are left, and the words are in the same names
 abbrev pub invariant-loop-place : goal.invariant-loop-place
