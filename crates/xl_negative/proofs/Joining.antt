@@ -45,14 +45,9 @@ then_alike : (f : Writing Places → List ℕ → Step (Writing Places)) (g : Wr
     (x : Step (Writing Places)) (y : Step (Writing (List SaidLedger))) → AreAlike Like x y → AreAlike Like (and_then f x) (and_then g y)
 unfolding and_then
 then_alike f g further (goes_on text p) (goes_on other q) alike = subst (λ (t : List ℕ). AreAlike Like (f p text) (g q t)) alike.0 (further p q text alike.1)
-then_alike f g further (goes_on text p) (stops other) alike = absurd alike
-then_alike f g further (goes_on text p) (finds other) alike = absurd alike
-then_alike f g further (stops text) (goes_on other q) alike = absurd alike
 then_alike f g further (stops text) (stops other) alike = alike
-then_alike f g further (stops text) (finds other) alike = absurd alike
-then_alike f g further (finds text) (goes_on other q) alike = absurd alike
-then_alike f g further (finds text) (stops other) alike = absurd alike
 then_alike f g further (finds text) (finds other) alike = alike
+then_alike f g further one other alike = absurd alike
 
 -- ONE SCHEDULE
 
