@@ -16,6 +16,7 @@ mod laws;
 mod narrator;
 mod nodes;
 mod parts;
+mod reported;
 mod sent;
 
 pub use command::Tell;

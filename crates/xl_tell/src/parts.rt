@@ -2,22 +2,21 @@
 ghost use Rattle.std.specs.Prelude.{◌≡◌, ◌≤◌, ◌++◌, Some, OnOk};
 ghost use Rattle.std.specs.String.{string_bytes};
 ghost use Rattle.xl_base.specs.Moments.{greatest_millis};
-ghost use Rattle.xl_replay.specs.Texts.{outcome_lines};
 ghost use Rattle.xl_running.specs.Running.{happens, world_of};
 ghost use Rattle.xl_tell.specs.Parts.{part_lines};
 ghost use Rattle.xl_world.specs.Schedule.{IsPlausible};
 
 use crate::before::{Before, note_before};
 use crate::nodes::push_told;
+use crate::reported::push_reported;
 use crate::sent::{Speller, push_sent};
 use std::alloc::Global;
 use xl_base::OutOfMemory;
 use xl_noted::Noted;
-use xl_replay::push_outcomes;
 use xl_running::Running;
-use xl_sched::{Event, Reader};
+use xl_sched::Event;
 use xl_told::push_event;
-use xl_world::{Outcome, World};
+use xl_world::World;
 
 /// The world, which is open.
 pub fn world_in(running: &Running) -> &World
@@ -28,23 +27,6 @@ pub fn world_in(running: &Running) -> &World
         unreachable!()
     };
     world
-}
-
-/// What the report says of the last line that was read.
-fn push_reported(
-    alloc: Global,
-    text: &mut String,
-    reader: &Reader,
-    outcomes: &[Outcome],
-) -> Result<(), OutOfMemory>
-    ensures { OnOk result (string_bytes text.new
-        ≡ string_bytes text.old ++ outcome_lines reader.now.names reader.now.lines outcomes.now) }
-{
-    // Of most parts it says nothing.
-    if outcomes.is_empty() {
-        return Ok(());
-    }
-    push_outcomes(alloc, text, reader, reader.lines(), outcomes)
 }
 
 /// The place in which all of a node was noted is kept for the next one.
@@ -86,7 +68,13 @@ pub fn tell_part(
     note_before(alloc, first, event, speller, &mut before)?;
     let happened = running.event(event)?;
     let reader = running.reader();
-    push_reported(alloc, text, reader, happened.as_slice())?;
+    push_reported(
+        alloc,
+        text,
+        reader,
+        &mut speller.hashed,
+        happened.as_slice(),
+    )?;
     let world = world_in(running);
     push_sent(text, reader, speller, world.sent(), sent)?;
     push_told(text, reader, &mut speller.hashed, &before, world)?;

@@ -1,0 +1,90 @@
+// What the report says of a part of an event.
+ghost use Rattle.std.specs.Prelude.{◌≡◌, ◌++◌, ◌∷◌, [], List, codes, decimal, IfSome, OnOk};
+ghost use Rattle.std.specs.String.{string_bytes};
+ghost use Rattle.xl_replay.specs.Texts.{outcome_lines, values_text};
+ghost use Rattle.xl_running.specs.Texts.{id_text, newline, space};
+ghost use Rattle.xl_sched.specs.declared.named.Named.{Named};
+
+use std::alloc::Global;
+use xl_base::{LedgerId, NodeNo, OutOfMemory};
+use xl_core::Refusal;
+use xl_ledger::AddRefusal;
+use xl_replay::push_outcomes;
+use xl_sched::Reader;
+use xl_told::{Hashed, push_id, push_numbered, push_of};
+use xl_world::Outcome;
+
+/// The ledger that a refusal names, if it names nothing else.
+fn ledger_in(refusal: &Refusal) -> Option<&LedgerId>
+    ensures { (names : List Named) → IfSome result (λ id. values_text names refusal.now ≡ id_text names id.now) }
+{
+    match refusal {
+        Refusal::Header(AddRefusal::Known(id))
+        | Refusal::Repeat(id)
+        | Refusal::Conflict(id)
+        | Refusal::WrongPrev(id) => Some(id),
+        _ => None,
+    }
+}
+
+/// A refusal with this number that names a ledger. The digits of its id are kept.
+fn push_refused(
+    text: &mut String,
+    reader: &Reader,
+    hashed: &mut Hashed,
+    node: NodeNo,
+    code: u32,
+    id: &LedgerId,
+) -> Result<(), OutOfMemory>
+    ensures { OnOk result (string_bytes text.new ≡ string_bytes text.old
+        ++ codes "refused " ++ decimal reader.now.lines ++ space ++ decimal node ++ space ++ decimal code ++ space
+        ++ id_text reader.now.names id.now ++ newline) }
+{
+    push_numbered(text, "refused ", reader.lines())?;
+    push_of(text, " ", node)?;
+    push_numbered(text, " ", u64::from(code))?;
+    text.push(' ')?;
+    push_id(text, reader, hashed, id)?;
+    text.push('\n')?;
+    Ok(())
+}
+
+/// What is said of one outcome, which is all of these.
+fn push_alone(
+    alloc: Global,
+    text: &mut String,
+    reader: &Reader,
+    hashed: &mut Hashed,
+    outcome: &Outcome,
+    all: &[Outcome],
+) -> Result<(), OutOfMemory>
+    requires { all.now ≡ outcome.now ∷ [] }
+    ensures { OnOk result (string_bytes text.new
+        ≡ string_bytes text.old ++ outcome_lines reader.now.names reader.now.lines all.now) }
+{
+    if let Outcome::Refused { node, refusal } = outcome {
+        if let Some(id) = ledger_in(refusal) {
+            return push_refused(text, reader, hashed, *node, refusal.code(), id);
+        }
+    }
+    push_outcomes(alloc, text, reader, reader.lines(), all)
+}
+
+/// What the report says of the last line that was read.
+pub fn push_reported(
+    alloc: Global,
+    text: &mut String,
+    reader: &Reader,
+    hashed: &mut Hashed,
+    outcomes: &[Outcome],
+) -> Result<(), OutOfMemory>
+    ensures { OnOk result (string_bytes text.new
+        ≡ string_bytes text.old ++ outcome_lines reader.now.names reader.now.lines outcomes.now) }
+{
+    match outcomes {
+        // Of most parts it says nothing.
+        [] => Ok(()),
+        [outcome] => push_alone(alloc, text, reader, hashed, outcome, outcomes),
+        _ => push_outcomes(alloc, text, reader, reader.lines(), outcomes),
+    }
+}
