@@ -32,7 +32,7 @@ if_any None P all = tt
 if_any (Some x) P all = all x
 
 -- how a command ended that a status stands for
-end_of : Status → Result Verdict Fault
+abbrev end_of : Status → Result Verdict Fault
 end_of Done = Ok Good
 end_of Fork = Ok Found
 end_of InputRefused = Ok Refused
@@ -172,7 +172,7 @@ cause_among s A B X C D cause = record {
   by_net = λ failed. absurd (cause.by_net failed);
 }
 
-names_fault : Status → Bool
+abbrev names_fault : Status → Bool
 names_fault ReadFault = true
 names_fault WriteFault = true
 names_fault KeepFault = true
