@@ -11,14 +11,9 @@ use Rattle.xl_lines.specs.Told.{after, step_at, step_within, told_by, told_from}
 -- two steps tell the same, and lead to states that are alike
 abbrev pub AreAlike : {S T : Type 0} → (S → T → Type 0) → Step S → Step T → Type 0
 AreAlike Like (goes_on text s) (goes_on other t) = (text ≡ other) × Like s t
-AreAlike Like (goes_on text s) (refuses other) = ⊥
-AreAlike Like (goes_on text s) (finds other) = ⊥
-AreAlike Like (refuses text) (goes_on other t) = ⊥
 AreAlike Like (refuses text) (refuses other) = text ≡ other
-AreAlike Like (refuses text) (finds other) = ⊥
-AreAlike Like (finds text) (goes_on other t) = ⊥
-AreAlike Like (finds text) (refuses other) = ⊥
 AreAlike Like (finds text) (finds other) = text ≡ other
+AreAlike Like one other = ⊥
 
 -- machines whose states that are alike do the same
 pub record DoAlike {S T : Type 0} (Like : S → T → Type 0) (a : Rules S) (b : Rules T) : Type 0 where
@@ -49,11 +44,6 @@ module _ {S T : Type 0} (Like : S → T → Type 0) (a : Rules S) (b : Rules T) 
           told_by (λ next. told_from limits a (left - 1) next lines) x ≡ told_by (λ next. told_from limits b (left - 1) next lines) y
       by_step further (goes_on text next) (goes_on front other) alike =
           ap (λ (before : List ℕ). after before (told_from limits a (left - 1) next lines)) alike.0 ∙ ap (after front) (further next other alike.1)
-      by_step further (goes_on text next) (refuses front) alike = absurd alike
-      by_step further (goes_on text next) (finds front) alike = absurd alike
-      by_step further (refuses text) (goes_on front other) alike = absurd alike
       by_step further (refuses text) (refuses front) alike = ap refused alike
-      by_step further (refuses text) (finds front) alike = absurd alike
-      by_step further (finds text) (goes_on front other) alike = absurd alike
-      by_step further (finds text) (refuses front) alike = absurd alike
       by_step further (finds text) (finds front) alike = ap found alike
+      by_step further one other alike = absurd alike

@@ -74,14 +74,11 @@ pub record IsNew (names : List Named) (name : List ℕ) : Type 0 where
 
 -- what a line declares is declared, and a name is new
 abbrev pub Declares : List Named → Line → Type 0
-Declares names (line.Limit limit) = Unit {0}
 Declares names (line.Node me list validating) = IsDeclared (record { me = me; list = list; validating = validating; moment = 0 })
-Declares names (line.Liar me) = Unit {0}
 Declares names (line.Name name id) = IsNew names name
 Declares names (line.Ledger name parent header) = IsNew names name
-Declares names (line.At at) = Unit {0}
-Declares names (line.Speak version) = Unit {0}
 Declares names (line.Event event) = IsPlausible event.what
+Declares names other = Unit {0}
 
 declared_node : (names : List Named) (me : ℕ) (validating : Bool) (r : Result TrustedList SchedRefusal) → InRange me → IfOk r IsValid → IfOk (r >>= (λ list. Ok (line.Node me list validating))) (Declares names)
 declared_node names me validating (Err e) range valid = tt
@@ -89,11 +86,8 @@ declared_node names me validating (Ok list) range valid = record { least = range
 
 node_declares : (names : List Named) (me least : Result ℕ SchedRefusal) (numbers : Result (List ℕ) SchedRefusal) (mode : Result Bool SchedRefusal) → IfOk me InRange →
     IfOk (me >>= (λ m. least >>= (λ l. numbers >>= (λ ns. mode >>= (λ v. trusted_of ns l >>= (λ list. Ok (line.Node m list v))))))) (Declares names)
-node_declares names (Err e) least numbers mode range = tt
-node_declares names (Ok m) (Err e) numbers mode range = tt
-node_declares names (Ok m) (Ok l) (Err e) mode range = tt
-node_declares names (Ok m) (Ok l) (Ok ns) (Err e) range = tt
 node_declares names (Ok m) (Ok l) (Ok ns) (Ok v) range = declared_node names m v (trusted_of ns l) range (trusted_valid ns l)
+node_declares names me least numbers mode range = tt
 
 node_of_declares : (reading : Reading) (number quorum members : List ℕ) (mode : Result Bool SchedRefusal) → IfOk (node_of reading number quorum members mode) (Declares reading.names)
 node_of_declares reading number quorum members mode =

@@ -87,12 +87,8 @@ set_said (Err e) valid = tt
 
 proposal_parts : (prev : Result LedgerId SchedRefusal) (set : Result SetId SchedRefusal) (pseq close time : Result ℕ SchedRefusal) →
     IfOk (prev >>= (λ p. set >>= (λ s. pseq >>= (λ q. close >>= (λ c. time >>= (λ t. Ok (lied.Proposal (record { prev = p; set = s; pseq = q; close = c; time = t })))))))) IsFitLied
-proposal_parts (Err e) set pseq close time = tt
-proposal_parts (Ok p) (Err e) pseq close time = tt
-proposal_parts (Ok p) (Ok s) (Err e) close time = tt
-proposal_parts (Ok p) (Ok s) (Ok q) (Err e) time = tt
-proposal_parts (Ok p) (Ok s) (Ok q) (Ok c) (Err e) = tt
 proposal_parts (Ok p) (Ok s) (Ok q) (Ok c) (Ok t) = tt
+proposal_parts prev set pseq close time = tt
 
 proposal_fits : (names : List Named) (arguments : List (List ℕ)) → IfOk (said_proposal names arguments) IsFitLied
 proposal_fits names (a ∷ b ∷ c ∷ d ∷ e ∷ []) = proposal_parts (ledger_id_of names a) (set_id_of names b) (number_of c) (number_of d) (number_of e)
@@ -100,12 +96,8 @@ proposal_fits names other = tt
 
 validation_parts : (seq : Result ℕ SchedRefusal) (id : Result LedgerId SchedRefusal) (signed : Result ℕ SchedRefusal) (full : Result Bool SchedRefusal) (told : Result (Option LedgerId) SchedRefusal) →
     IfOk (seq >>= (λ s. id >>= (λ i. signed >>= (λ g. full >>= (λ f. told >>= (λ v. Ok (lied.Validation (record { id = i; seq = s; signed = g; full = f; validated = v })))))))) IsFitLied
-validation_parts (Err e) id signed full told = tt
-validation_parts (Ok s) (Err e) signed full told = tt
-validation_parts (Ok s) (Ok i) (Err e) full told = tt
-validation_parts (Ok s) (Ok i) (Ok g) (Err e) told = tt
-validation_parts (Ok s) (Ok i) (Ok g) (Ok f) (Err e) = tt
 validation_parts (Ok s) (Ok i) (Ok g) (Ok f) (Ok v) = tt
+validation_parts seq id signed full told = tt
 
 validation_fits : (names : List Named) (arguments : List (List ℕ)) → IfOk (said_validation names arguments) IsFitLied
 validation_fits names (a ∷ b ∷ c ∷ d ∷ []) = validation_parts (number_of a) (ledger_id_of names b) (number_of c) (full_of d) (told_if names None)
