@@ -4,7 +4,7 @@ use Rattle.xl_lines.specs.declared.machine.Verdict.{Verdict}
 use Rattle.xl_lines.specs.declared.machine.Verdict.TheVariants.{Good, Found, Refused}
 use Rattle.xl_lines.specs.Rules.{Told}
 use Rattle.xl_base.specs.declared.status.Status.{Status}
-use Rattle.xl_base.specs.declared.status.Status.TheVariants.{Done, Fork, WordsRefused, InputRefused, ReadFault, WriteFault, OutOfMemory, KeepFault, NetFault, StoreFull}
+use Rattle.xl_base.specs.declared.status.Status.TheVariants.{Done, Fork, InputRefused, OutOfMemory}
 
 -- the text has this length, and stands at the front of the room, if it fits there
 abbrev pub Handed : List ℕ → ℕ → List ℕ → Type 0
@@ -26,9 +26,4 @@ IsPage told Done n room = HandsAll Good told n room
 IsPage told Fork n room = HandsAll Found told n room
 IsPage told InputRefused n room = HandsAll Refused told n room
 IsPage told OutOfMemory n room = Unit {0}
-IsPage told WordsRefused n room = ⊥
-IsPage told ReadFault n room = ⊥
-IsPage told WriteFault n room = ⊥
-IsPage told KeepFault n room = ⊥
-IsPage told NetFault n room = ⊥
-IsPage told StoreFull n room = ⊥
+IsPage told other n room = ⊥

@@ -18,7 +18,7 @@ use Rattle.xl_replay.specs.Replays.{report_of}
 use Rattle.xl_replay.proofs.Headline.{as_written}
 use Rattle.xl_show.specs.Soon.{soon_from, soon_in}
 use Rattle.xl_words.specs.declared.command.Telling.{Telling}
-use Rattle.xl_words.specs.declared.command.Telling.TheVariants.{Replay, Events, Show, Lists, Merge, Audit, Blame, Flags, Negative, Gen, Help, Version}
+use Rattle.xl_words.specs.declared.command.Telling.TheVariants.{Replay}
 use Rattle.xl_texts.specs.Promises.{Reads, on, to_what_is_found, nothing, Showing, always, if_some, if_read, IsAtItsEnd, LacksSome, LeavesOut, ShowsEnd}
 use Rattle.xl_texts.specs.Streams.{Streams}
 use Rattle.xl_texts.specs.Keeps.{Keeps}
@@ -42,11 +42,8 @@ end_of other = Err Memory
 
 end_of_status : (r : Result Verdict Fault) → end_of (status_after r) ≡ r
 end_of_status (Ok Good) = refl
-end_of_status (Ok Found) = refl
-end_of_status (Ok Refused) = refl
 end_of_status (Err Read) = refl
-end_of_status (Err Write) = refl
-end_of_status (Err Memory) = refl
+end_of_status other = refl
 
 -- so with one status two commands ended alike
 same_end : (r r' : Result Verdict Fault) → status_after r ≡ status_after r' → r ≡ r'
@@ -70,11 +67,8 @@ complete_after (Err Memory) A B only a b = inr refl
 
 pub known_after : (r : Result Verdict Fault) → IsAnswered (status_after r)
 known_after (Ok Good) = tt
-known_after (Ok Found) = tt
-known_after (Ok Refused) = tt
 known_after (Err Read) = tt
-known_after (Err Write) = tt
-known_after (Err Memory) = tt
+known_after other = tt
 
 abbrev len_known : Option (List ℕ) → ℕ
 len_known None = 0
@@ -195,17 +189,7 @@ uncaused s t A B C D calm is =
 quiet : (telling : Telling) → (promise_by telling).soon [] ≡ silence
 unfolding soon_from soon_in
 quiet Replay = refl
-quiet Events = refl
-quiet Show = refl
-quiet Lists = refl
-quiet Merge = refl
-quiet Audit = refl
-quiet Blame = refl
-quiet Flags = refl
-quiet Negative = refl
-quiet (Gen rounds) = refl
-quiet Help = refl
-quiet Version = refl
+quiet other = refl
 
 -- nothing is written if memory runs out before the command begins
 pub nothing_done : (telling : Telling) (at : Streams) → WritesText telling at at OutOfMemory

@@ -2,7 +2,7 @@
 use Rattle.std.proofs.Common.{ℕ, List, inl, inr, refl}
 use Rattle.xl_base.specs.Statuses.{code_of}
 use Rattle.xl_base.specs.declared.status.Status.{Status}
-use Rattle.xl_base.specs.declared.status.Status.TheVariants.{Done, Fork, WordsRefused, InputRefused, ReadFault, WriteFault, OutOfMemory, KeepFault, NetFault, StoreFull}
+use Rattle.xl_base.specs.declared.status.Status.TheVariants.{Done, Fork, InputRefused, OutOfMemory}
 use Rattle.xl_lines.specs.Rules.{Told}
 use Rattle.xl_page.specs.Pages.{IsPage}
 use Rattle.xl_web.specs.Answers.{IsAnswer}
@@ -15,9 +15,4 @@ answers told InputRefused n room page =
     record { done = λ is. cc; fork = λ is. cc; refused = λ _. page; known = inr (inr (inl refl)) }
 answers told OutOfMemory n room page =
     record { done = λ is. cc; fork = λ is. cc; refused = λ is. cc; known = inr (inr (inr refl)) }
-answers told WordsRefused n room page = elim page [ ]
-answers told ReadFault n room page = elim page [ ]
-answers told WriteFault n room page = elim page [ ]
-answers told KeepFault n room page = elim page [ ]
-answers told NetFault n room page = elim page [ ]
-answers told StoreFull n room page = elim page [ ]
+answers told other n room page = elim page [ ]
