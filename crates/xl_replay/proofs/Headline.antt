@@ -70,12 +70,8 @@ reports_agree w is_run r q has_r has_q none same forth back =
 
 -- the values of a `full` outcome
 node_in : Outcome → ℕ
-node_in (Switched node seq id) = node
-node_in (Built node seq id issued) = node
-node_in (Refused node refusal) = node
 node_in (Full node seq id) = node
-node_in (Preferred node ledger) = node
-node_in (Heard node member id) = node
+node_in other = 0
 
 seq_in : Outcome → ℕ
 seq_in (Full node seq id) = seq

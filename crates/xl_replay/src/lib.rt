@@ -19,4 +19,4 @@ mod words;
 pub use command::Replay;
 pub use ends::push_end;
 pub use laws::{law_of_readings, law_of_reports};
-pub use outcomes::push_outcomes;
+pub use outcomes::{push_how, push_outcomes};

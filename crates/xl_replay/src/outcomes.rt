@@ -32,7 +32,7 @@ fn push_switched(
 }
 
 /// How a built ledger was validated.
-fn push_how(text: &mut String, issued: &Issued) -> Result<(), OutOfMemory>
+pub fn push_how(text: &mut String, issued: &Issued) -> Result<(), OutOfMemory>
     ensures { OnOk result (string_bytes text.new ≡ string_bytes text.old ++ how_text issued.now) }
 {
     match issued {
