@@ -9,7 +9,8 @@ use Rattle.xl_told.specs.declared.hashed.NamedHeader.{NamedHeader}
 use Rattle.xl_told.specs.declared.hashed.NamedSet.{NamedSet}
 use Rattle.xl_told.specs.declared.hashed.SpelledId.{SpelledId}
 use Rattle.xl_told.specs.declared.hashed.SpelledProposal.{SpelledProposal}
-use Rattle.xl_told.specs.Words.{proposal_text}
+use Rattle.xl_told.specs.declared.hashed.SpelledValidation.{SpelledValidation}
+use Rattle.xl_told.specs.Words.{proposal_text, validation_text}
 
 abbrev pub IsNamedHeader : NamedHeader → Type 0
 IsNamedHeader named = named.id ≡ header_id (header_in named.bytes)
@@ -23,3 +24,6 @@ IsSpelled spelled = string_bytes spelled.digits ≡ encode_lower spelled.id.0
 -- in no names
 abbrev pub IsSpelledProposal : SpelledProposal → Type 0
 IsSpelledProposal spelled = string_bytes spelled.words ≡ proposal_text [] spelled.proposal
+
+abbrev pub IsSpelledValidation : SpelledValidation → Type 0
+IsSpelledValidation spelled = string_bytes spelled.words ≡ validation_text [] spelled.validation

@@ -5,24 +5,31 @@ ghost use Rattle.hex.specs.Hex.{encode_lower};
 ghost use Rattle.xl_base.specs.Sets.{set_id_of};
 ghost use Rattle.xl_ledger.specs.Headers.{header_id};
 ghost use Rattle.xl_ledger.specs.Reading.{header_in};
-ghost use Rattle.xl_told.specs.Hashed.{IsNamedHeader, IsNamedSet, IsSpelled, IsSpelledProposal};
-ghost use Rattle.xl_told.specs.Words.{proposal_text};
+ghost use Rattle.xl_told.specs.Hashed.{
+  IsNamedHeader,
+  IsNamedSet,
+  IsSpelled,
+  IsSpelledProposal,
+  IsSpelledValidation,
+};
+ghost use Rattle.xl_told.specs.Words.{proposal_text, validation_text};
 
-use crate::words::push_nameless;
+use crate::words::{push_nameless, push_validation_words};
 use std::alloc::Global;
 use std::marker::Model;
 use xl_base::{LedgerId, OutOfMemory, SetId, TxId, set_id};
 use xl_ledger::{id_of, read_header};
-use xl_wire::{Ids, Proposal};
+use xl_sched::Reader;
+use xl_wire::{Ids, Proposal, Validation};
 
 /// For how many ids their digits are kept.
 const SPELLED: usize = 64;
 
-/// The bytes of a proposal's words, if none of its ids has a name, in this century.
+/// The bytes of a proposal's words, if none of its ids has a name, in this century. A validation's are about as many.
 const WORDS: usize = 152;
 
 /// The header and the set that were hashed last, with their ids: what is said to several is hashed once. So ids are
-/// spelled once, and the proposal that was spelled last.
+/// spelled once, and the proposal and the validation that were spelled last.
 #[derive(Drop)]
 pub struct Hashed {
     alloc: Global,
@@ -31,6 +38,7 @@ pub struct Hashed {
     /// Each in a place that hangs on its bytes.
     spelled: Vec<SpelledId>,
     proposal: Option<SpelledProposal>,
+    validation: Option<SpelledValidation>,
 }
 
 /// An id and its digits.
@@ -44,6 +52,13 @@ struct SpelledId {
 #[derive(Drop)]
 struct SpelledProposal {
     proposal: Proposal,
+    words: String,
+}
+
+/// A validation and its words, if none of its ids has a name.
+#[derive(Drop)]
+struct SpelledValidation {
+    validation: Validation,
     words: String,
 }
 
@@ -63,14 +78,21 @@ struct NamedSet {
 
 impl Model for Hashed {
     ghost use Rattle.std.specs.Prelude.{◌≡◌, All, IfSome, length};
-    ghost use Rattle.xl_told.specs.Hashed.{IsNamedHeader, IsNamedSet, IsSpelled, IsSpelledProposal};
+    ghost use Rattle.xl_told.specs.Hashed.{
+      IsNamedHeader,
+      IsNamedSet,
+      IsSpelled,
+      IsSpelledProposal,
+      IsSpelledValidation,
+    };
 
     ghost Value = { Unit {0} };
 
     ghost view = { λ _. tt };
 
     ghost invariant = { λ h. IfSome h.header IsNamedHeader × IfSome h.set IsNamedSet
-        × All IsSpelled h.spelled.items × length h.spelled.items ≡ 64 × IfSome h.proposal IsSpelledProposal };
+        × All IsSpelled h.spelled.items × length h.spelled.items ≡ 64 × IfSome h.proposal IsSpelledProposal
+        × IfSome h.validation IsSpelledValidation };
 }
 
 fn are_same_bytes(one: &[u8], other: &[u8]) -> bool
@@ -193,6 +215,25 @@ fn known_words<'a>(kept: &'a Option<SpelledProposal>, proposal: &Proposal) -> Op
     }
 }
 
+fn is_same_validation(one: &Validation, other: &Validation) -> bool
+    ensures { IsTrue result → one.now ≡ other.now }
+{
+    one == other
+}
+
+/// The words of a validation, if it is the kept one.
+fn known_vote<'a>(kept: &'a Option<SpelledValidation>, validation: &Validation) -> Option<&'a str>
+    requires { IfSome kept.now IsSpelledValidation }
+    ensures { IfSome result (λ words. words.now ≡ validation_text [] validation.now) }
+{
+    match kept {
+        Some(spelled) if is_same_validation(&spelled.validation, validation) => {
+            Some(spelled.words.as_str())
+        }
+        _ => None,
+    }
+}
+
 impl Hashed {
     /// Nothing was hashed yet. Refused only when memory runs out.
     pub fn none(alloc: Global) -> Result<Hashed, OutOfMemory> {
@@ -202,6 +243,7 @@ impl Hashed {
             set: None,
             spelled: spell_each(alloc)?,
             proposal: None,
+            validation: None,
         })
     }
 
@@ -257,6 +299,42 @@ impl Hashed {
         push_nameless(&mut words, self, proposal)?;
         Ok(SpelledProposal {
             proposal: *proposal,
+            words,
+        })
+    }
+
+    /// The words of a validation none of whose ids has a name, added to a text.
+    pub(crate) fn push_validation(
+        &mut self,
+        text: &mut String,
+        reader: &Reader,
+        validation: &Validation,
+    ) -> Result<(), OutOfMemory>
+        requires { validation_text reader.now.names validation.now ≡ validation_text [] validation.now }
+        ensures { OnOk result (string_bytes text.new ≡ string_bytes text.old ++ validation_text [] validation.now) }
+    {
+        if let Some(words) = known_vote(&self.validation, validation) {
+            return Ok(text.push_str(words)?);
+        }
+        let spelled = self.spell_validation(reader, validation)?;
+        text.push_str(spelled.words.as_str())?;
+        self.validation = Some(spelled);
+        Ok(())
+    }
+
+    fn spell_validation(
+        &mut self,
+        reader: &Reader,
+        validation: &Validation,
+    ) -> Result<SpelledValidation, OutOfMemory>
+        requires { validation_text reader.now.names validation.now ≡ validation_text [] validation.now }
+        ensures spelled { IfOk result IsSpelledValidation }
+        ensures same { IfOk result (λ spelled. spelled.validation ≡ validation.now) }
+    {
+        let mut words = String::with_capacity(self.alloc, WORDS)?;
+        push_validation_words(&mut words, reader, self, validation)?;
+        Ok(SpelledValidation {
+            validation: *validation,
             words,
         })
     }

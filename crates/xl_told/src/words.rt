@@ -1,5 +1,5 @@
 // Words that several lines share, added to a text.
-ghost use Rattle.std.specs.Prelude.{◌≡◌, ◌<◌, ◌/◌, ◌%◌, ◌++◌, ◌∷◌, [], codes, decimal, IsTrue, None, OnOk};
+ghost use Rattle.std.specs.Prelude.{◌≡◌, ◌<◌, ◌/◌, ◌%◌, ◌++◌, ◌∷◌, [], codes, decimal, IfSome, IsTrue, None, OnOk};
 ghost use Rattle.std.specs.List.{flat_map};
 ghost use Rattle.std.specs.String.{string_bytes};
 ghost use Rattle.xl_running.specs.Texts.{id_text, space};
@@ -258,7 +258,8 @@ pub fn push_ledger(
     push_id(text, reader, hashed, id)
 }
 
-pub fn push_validation(
+/// A validation, word after word.
+pub(crate) fn push_validation_words(
     text: &mut String,
     reader: &Reader,
     hashed: &mut Hashed,
@@ -273,6 +274,40 @@ pub fn push_validation(
     text.push(' ')?;
     push_fullness(text, validation.full)?;
     push_validated(text, reader, hashed, &validation.validated)
+}
+
+fn is_nameless_if_told(reader: &Reader, validated: &Option<LedgerId>) -> bool
+    ensures { IsTrue result → IfSome validated.now (λ id. name_of reader.now.names id.0 ≡ None) }
+{
+    match validated {
+        Some(id) => has_no_name(reader, &id.0),
+        None => true,
+    }
+}
+
+/// Whether none of a validation's ids has a name.
+fn is_nameless_vote(reader: &Reader, validation: &Validation) -> bool
+    ensures { IsTrue result → validation_text reader.now.names validation.now ≡ validation_text [] validation.now }
+{
+    if !has_no_name(reader, &validation.id.0) {
+        return false;
+    }
+    is_nameless_if_told(reader, &validation.validated)
+}
+
+pub fn push_validation(
+    text: &mut String,
+    reader: &Reader,
+    hashed: &mut Hashed,
+    validation: &Validation,
+) -> Result<(), OutOfMemory>
+    ensures { OnOk result (string_bytes text.new
+        ≡ string_bytes text.old ++ validation_text reader.now.names validation.now) }
+{
+    if is_nameless_vote(reader, validation) {
+        return hashed.push_validation(text, reader, validation);
+    }
+    push_validation_words(text, reader, hashed, validation)
 }
 
 /// The numbers of a proposal, each behind a space.

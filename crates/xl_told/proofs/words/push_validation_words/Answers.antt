@@ -5,7 +5,7 @@ use Rattle.std.specs.String.{string_bytes}
 use Rattle.xl_running.specs.Texts.{id_text, space}
 use Rattle.xl_told.specs.Words.{fullness_text, validated_text}
 use Rattle.xl_told.proofs.Writing.{last_written, then_written}
-use Rattle.xl_told.proofs.words.push_validation.Goals as goal
+use Rattle.xl_told.proofs.words.push_validation_words.Goals as goal
 
 pub returns : goal.returns
 unfolding lib.Utf8.encode
