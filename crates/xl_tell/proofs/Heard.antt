@@ -301,18 +301,17 @@ pub nowhere_tells : (w : World) (e : Event) → None ≡ node_of w e.what → (n
 nowhere_tells w e at names = ap (λ (o : Option ℕ). changed_at names o (noted_at w o) (after_event w e)) at
 
 -- what is told by what may be new
-pub hearing_tells : (w : World) (e : Event) (frame : Sent) (i : ℕ) (core : Core) (n : Node) (what : Speech) →
-    Delivers w e.what frame → IsBrief w frame.to e.at frame.from → i ≡ frame.to → Some core ≡ core_in w i → n ≡ core.node → Says frame what → 1 ≤ frame.from → (names : List Named) →
+pub hearing_tells : (w : World) (e : Event) (frame : Sent) (i : ℕ) (n : Node) (what : Speech) →
+    Delivers w e.what frame → IsBrief w frame.to e.at frame.from n → i ≡ frame.to → Says frame what → 1 ≤ frame.from → (names : List Named) →
     told_by names (frame_noted i n frame.from what) (after_event w e) ≡ new_holdings names w e
-hearing_tells w e frame i core n what delivers brief to there is says low names =
-    let same : core ≡ brief.core = same_core core brief.core (there ∙ (ap (core_in w) to ∙ brief.there)) in
+hearing_tells w e frame i n what delivers brief to says low names =
+    let of_core : n ≡ brief.core.node = sym brief.is in
     ap (λ (j : ℕ). told_by names (frame_noted j n frame.from what) (after_event w e)) to
-    ∙ (ap (λ (x : Node). told_by names (frame_noted frame.to x frame.from what) (after_event w e)) (is ∙ ap (λ (c : Core). c.node) same)
-    ∙ hearing_told names w e frame brief.core what delivers brief.came brief.there says low brief.valid brief.listed brief.within)
-
--- there is such a node
-pub has_node : (w : World) (frame : Sent) (i at m : ℕ) → IsBrief w frame.to at m → i ≡ frame.to → None ≡ core_in w i → ⊥
-has_node w frame i at m brief to none = none_some brief.core (none ∙ (ap (core_in w) to ∙ brief.there))
+    ∙ (ap (λ (x : Node). told_by names (frame_noted frame.to x frame.from what) (after_event w e)) of_core
+    ∙ hearing_told names w e frame brief.core what delivers brief.came brief.there says low
+    (subst (λ (x : Node). IsValid x.list) of_core brief.valid)
+    (ap (λ (x : Node). is_on x.list.members frame.from) brief.is ∙ brief.listed)
+    (subst (λ (x : Node). max x.time e.at / 1000 ≡ x.time / 1000) of_core brief.within))
 
 -- a world that has a node isn't spent
 pub unspent : (spent : Bool) (core : Core) → (spent ≡ true → Some core ≡ None) → spent ≡ false
@@ -320,14 +319,13 @@ unspent true core never = absurd (none_some core (sym (never refl)))
 unspent false core never = refl
 
 pub brief_so : (w : World) (number at m : ℕ) (core : Core) (n : Node) → IsRun w → Some core ≡ core_in w number → n ≡ core.node → IsValid n.list → is_on n.list.members m ≡ true →
-    max n.time at / 1000 ≡ n.time / 1000 → IsBrief w number at m
-brief_so w number at m core n came there same valid listed within =
-    let its = subst (λ (x : Node). IsValid x.list) same valid in
-    record {
-      came = came;
-      core = core;
-      there = sym there;
-      valid = its;
-      listed = ap (λ (x : Node). is_on x.list.members m) (sym same) ∙ listed;
-      within = subst (λ (x : Node). max x.time at / 1000 ≡ x.time / 1000) same within;
-    }
+    max n.time at / 1000 ≡ n.time / 1000 → IsBrief w number at m n
+brief_so w number at m core n came there same valid listed within = record {
+  came = came;
+  core = core;
+  there = sym there;
+  is = sym same;
+  valid = valid;
+  listed = listed;
+  within = within;
+}

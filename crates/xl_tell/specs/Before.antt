@@ -114,11 +114,13 @@ pub record Delivers (w : World) (happening : What) (frame : Sent) : Type 0 where
   pub steps : (at : ℕ) → steps_at w at happening ≡ delivery w at frame
   pub node : node_of w happening ≡ Some frame.to
 
--- in a world that came about the node of a number hears something of a member of its list, in the second of its time
-pub record IsBrief (w : World) (number at m : ℕ) : Type 0 where
+-- in a world that came about this is the node of a number, and hears something of a member of its list, in the second
+-- of its time
+pub record IsBrief (w : World) (number at m : ℕ) (n : Node) : Type 0 where
   pub came : IsRun w
   pub core : Core
   pub there : core_in w number ≡ Some core
-  pub valid : IsValid core.node.list
-  pub listed : is_on core.node.list.members m ≡ true
-  pub within : max core.node.time at / 1000 ≡ core.node.time / 1000
+  pub is : core.node ≡ n
+  pub valid : IsValid n.list
+  pub listed : is_on n.list.members m ≡ true
+  pub within : max n.time at / 1000 ≡ n.time / 1000

@@ -9,7 +9,7 @@ ghost use Rattle.xl_tell.specs.Before.{Delivers, IsBrief, Says, SaysSet, Tells, 
 ghost use Rattle.xl_tell.specs.Nodes.{node_of};
 ghost use Rattle.xl_world.specs.Sending.{body_said};
 
-use crate::brief::{is_beat, is_brief_at, is_within};
+use crate::brief::{brief_node, is_beat, is_within};
 use crate::delivery::{frame_of, is_known, is_set, saying};
 use crate::nodes::{node_asked, node_of as node_number};
 use crate::sent::Speller;
@@ -174,68 +174,32 @@ fn note_heard(
     note_said(node, number, member, said, before);
 }
 
-/// What the node of a number holds that may be new once it has heard the frame that says this.
-fn note_hearing(
-    world: &World,
-    event: &Event,
-    frame: &Sent<'_>,
-    said: &Said,
-    hashed: &mut Hashed,
-    before: &mut Before,
-)
-    requires delivers { Delivers world.now event.now.what frame.now }
-    requires says { Says frame.now (speech_of (body_said said.now)) }
-    requires brief { IsBrief world.now frame.now.to event.now.at frame.now.from }
-    ensures { Tells world.now event.now before.new }
-{
-    let number = frame.to();
-    match world.node(number) {
-        Some(core) => note_heard(core.node(), number, frame.from(), said, hashed, before),
-        None => *before = Before::Nobody,
-    }
-}
-
-/// What the node of a number holds that may be new once it has heard the frame that says a set.
-fn note_set(world: &World, event: &Event, frame: &Sent<'_>, before: &mut Before)
-    requires delivers { Delivers world.now event.now.what frame.now }
-    requires says { SaysSet frame.now }
-    requires brief { IsBrief world.now frame.now.to event.now.at frame.now.from }
-    ensures { Tells world.now event.now before.new }
-{
-    let number = frame.to();
-    let _member = frame.from();
-    match world.node(number) {
-        Some(core) => {
-            let noted = core.node().time();
-            *before = Before::Time { number, noted };
-        }
-        None => *before = Before::Nobody,
-    }
-}
-
-/// What is noted of the receiver of a frame that is delivered, if what it says is kept in place of bytes.
+/// What is noted of this node, which receives the frame that is delivered, if what it says is kept in place of bytes.
 fn note_listener(
     alloc: Global,
     world: &World,
     event: &Event,
     frame: &Sent<'_>,
+    node: &Node<Trie>,
     speller: &mut Speller,
     before: &mut Before,
 ) -> Result<(), OutOfMemory>
     requires delivers { Delivers world.now event.now.what frame.now }
-    requires brief { IsBrief world.now frame.now.to event.now.at frame.now.from }
+    requires brief { IsBrief world.now frame.now.to event.now.at frame.now.from node.now }
     ensures { OnOk result (Tells world.now event.now before.new) }
 {
+    let (number, member) = (frame.to(), frame.from());
     if let Some(said) = frame.said() {
-        saying(frame.from(), frame.to(), said);
-        note_hearing(world, event, frame, said, &mut speller.hashed, before);
+        saying(member, number, said);
+        note_heard(node, number, member, said, &mut speller.hashed, before);
         return Ok(());
     }
     if is_set(frame, &mut speller.room) {
-        note_set(world, event, frame, before);
+        let noted = node.time();
+        *before = Before::Time { number, noted };
         return Ok(());
     }
-    note_whole(alloc, world, event, frame.to(), &mut speller.spare, before)
+    note_whole(alloc, world, event, number, &mut speller.spare, before)
 }
 
 /// What is noted of the receiver of a frame that is delivered.
@@ -250,8 +214,8 @@ fn note_receiver(
     requires { Delivers world.now event.now.what frame.now }
     ensures { OnOk result (Tells world.now event.now before.new) }
 {
-    if is_brief_at(world, frame.to(), event.at, frame.from()) {
-        return note_listener(alloc, world, event, frame, speller, before);
+    if let Some(node) = brief_node(world, frame.to(), event.at, frame.from()) {
+        return note_listener(alloc, world, event, frame, node, speller, before);
     }
     note_whole(alloc, world, event, frame.to(), &mut speller.spare, before)
 }

@@ -1,5 +1,5 @@
 // Whether what happens at a node may change little of it.
-ghost use Rattle.std.specs.Prelude.{◌≡◌, ◌/◌, max, true, IsTrue};
+ghost use Rattle.std.specs.Prelude.{◌≡◌, ◌/◌, max, true, IfSome, IsTrue};
 ghost use Rattle.xl_lists.specs.Lists.{IsValid, is_on};
 ghost use Rattle.xl_noted.specs.Asking.{is_open as is_open_by};
 ghost use Rattle.xl_rounds.specs.Positions.{count};
@@ -22,14 +22,24 @@ fn is_brief(node: &Node<Trie>, at: Millis, member: NodeNo) -> bool
     list.has(member) && node.time().max(at) / 1000 == node.time() / 1000
 }
 
-/// Whether the node of a number is there, and what it hears of the member at a moment changes nothing of the others.
-pub(crate) fn is_brief_at(world: &World, number: NodeNo, at: Millis, member: NodeNo) -> bool
-    ensures { IsTrue result → IsBrief world.now number at member }
+/// The node of a number, if it is there, and what it hears of the member at a moment changes nothing of the others.
+pub(crate) fn brief_node<'a>(
+    world: &'a World,
+    number: NodeNo,
+    at: Millis,
+    member: NodeNo,
+) -> Option<&'a Node<Trie>>
+    ensures { IfSome result (λ node. IsBrief world.now number at member node.now) }
 {
     let _reports = world.reports();
-    match world.node(number) {
-        Some(core) => is_brief(core.node(), at, member),
-        None => false,
+    let Some(core) = world.node(number) else {
+        return None;
+    };
+    let node = core.node();
+    if is_brief(node, at, member) {
+        Some(node)
+    } else {
+        None
     }
 }
 
