@@ -71,7 +71,9 @@ module _ (names : List Named) (t : Tallying) (l : Listing) (is : StandsFor t l) 
 
   nothing_same : (a b : Bool) → SaysSame (if a then silent t else silent t) (if b then silent l else silent l)
   nothing_same true true = silent_same t l is
-  nothing_same one other = silent_same t l is
+  nothing_same true false = silent_same t l is
+  nothing_same false true = silent_same t l is
+  nothing_same false false = silent_same t l is
 
   core_same : (i s : ℕ) (id : LedgerId) (c : Core) → IsCounting i c → (a b : Bool) → a ≡ b →
       SaysSame (if a then core_said tally_keeping names t i s id (Some c) else silent t) (if b then core_said list_keeping names l i s id (Some c) else silent l)
