@@ -1,8 +1,7 @@
 -- A node that was asked something within a second holds nothing else that it didn't hold before.
-use Rattle.std.proofs.Common.{◌≡◌, ◌≢◌, ℕ, suc, zero, Bool, true, false, List, [], ◌∷◌, ◌++◌, length, refl, sym, ap, ◌∙◌, arith, Option, Some, None, append_assoc}
-use Rattle.std.specs.Prelude.{◌==◌, ◌&&◌, ◌-◌, count_by, map, is_some, slice_index_or}
+use Rattle.std.proofs.Common.{◌≡◌, ℕ, suc, zero, Bool, true, false, List, [], ◌∷◌, ◌++◌, length, refl, sym, ap, ◌∙◌, arith, Option, Some, None, append_assoc}
+use Rattle.std.specs.Prelude.{◌==◌, ◌-◌, count_by, map, is_some, slice_index_or}
 use Rattle.std.specs.List.{flat_map}
-use Rattle.std.proofs.lemmas.List.{append-nil}
 use Rattle.xl_lists.proofs.Counting.{count_by-cons}
 use Rattle.xl_lists.specs.Lists.{IsValid, TrustedList, is_on}
 use Rattle.xl_core.specs.Node.{Node, preferred}
@@ -10,19 +9,19 @@ use Rattle.xl_ledger.specs.Registries.{Ledgers}
 use Rattle.xl_noted.specs.declared.members.NotedMember.{NotedMember}
 use Rattle.xl_noted.specs.Asking.{LeavesForBeat, LeavesForIssue, is_still, issue_noted}
 use Rattle.xl_noted.specs.Hearing.{LeavesOthers}
-use Rattle.xl_noted.specs.Noted.{member_noted, noted, position_before, round_noted, row_before}
-use Rattle.xl_noted.specs.Same.{are_same_ids, is_same_last, is_same_list, is_same_number, is_same_position, is_same_proposal, is_same_report, is_same_row}
-use Rattle.xl_rounds.specs.Positions.{Positions, count, count_agreeing, position_of}
+use Rattle.xl_noted.specs.Noted.{member_noted, noted, round_noted}
+use Rattle.xl_noted.specs.Same.{are_same_ids, is_same_list, is_same_number, is_same_position, is_same_report, is_same_row}
+use Rattle.xl_rounds.specs.Positions.{Positions, count, position_of}
 use Rattle.xl_rounds.specs.Rounds.{Round, our_position}
 use Rattle.xl_sched.specs.declared.named.Named.{Named}
 use Rattle.xl_validations.specs.declared.row.Row.{Row}
 use Rattle.xl_validations.specs.Rows.{current_of}
 use Rattle.xl_wire.specs.declared.proposal.Proposal.{Proposal}
-use Rattle.xl_wire.specs.declared.validation.Validation.{Validation}
 use Rattle.xl_held.specs.Asking.{beat_told, beaten, issue_told}
-use Rattle.xl_held.specs.Changes.{agreement_changed, is_same_round, changed_lines, ledgers_changed, proposal_changed, proposals_changed, reports_changed, round_changed, row_changed, rows_changed, settings_changed, unless}
-use Rattle.xl_held.specs.Lines.{agreement_line, issuing_line, kept_line, list_line, pending_line, position_line, prefers_line, proposal_line, report_line, round_line, row_line, set_line, time_line}
-use Rattle.xl_held.proofs.Untold.{drop_end, ids_themselves, last_itself, list_stays, mode_itself, no_agreement, no_ledgers, no_pending, no_proposal, none_came, number_itself, on_first, on_more, phase_itself, position_of_noted, proposal_itself, proposals, report_itself, row_itself, row_of_noted, rows, settings_stay, unless_same}
+use Rattle.xl_held.specs.Changes.{agreement_changed, changed_lines, ledgers_changed, proposal_changed, proposals_changed, reports_changed, round_changed, row_changed, rows_changed, unless}
+use Rattle.xl_held.specs.Lines.{issuing_line, kept_line, list_line, pending_line, prefers_line, proposal_line, row_line, time_line}
+use Rattle.xl_held.proofs.Staying.{agreement_stays, drop_end, ids_themselves, list_stays, none_came, part_stays, preference_stays, report_stays, settings_stay, unless_same}
+use Rattle.xl_held.proofs.Untold.{no_agreement, no_ledgers, no_pending, no_proposal, on_first, on_more, position_of_noted, proposals, row_stays, rows}
 use Rattle.xl_held.proofs.Untold as untold
 
 -- AN ISSUE
@@ -53,12 +52,6 @@ module _ (names : List Named) (i : ℕ) (n later : Node) (leaves : LeavesForIssu
   abbrev its_row : List ℕ
   its_row = unless (is_same_row (current_of n.rows n.me) (current_of later.rows n.me)) (row_line names i n.me (current_of later.rows n.me))
 
-  abbrev its_report : List ℕ
-  its_report = unless (is_same_last n.last later.last) (report_line names i later.last)
-
-  abbrev its_preference : List ℕ
-  its_preference = unless (is_same_report (preferred n) (preferred later)) (prefers_line names i (preferred later))
-
   abbrev before : List NotedMember
   before = map (member_noted n) n.list.members
 
@@ -73,7 +66,7 @@ module _ (names : List Named) (i : ℕ) (n later : Node) (leaves : LeavesForIssu
       let listed : List ℕ = unless (is_same_list n.list later.list) (list_line i later.list) in
       let own : List ℕ = rows_changed names i before later in
       let ledgers : List ℕ = ledgers_changed names i (length n.ledgers.headers) later in
-      let reports : List ℕ = its_report ++ its_preference in
+      let reports : List ℕ = reports_changed names i (noted n) later in
       let round : List ℕ = round_changed names i (round_noted n.round) later.round in
       let positions : List ℕ = proposals_changed names i before later in
       let agreement : List ℕ = agreement_changed i (round_noted n.round) later.round in
@@ -83,8 +76,7 @@ module _ (names : List Named) (i : ℕ) (n later : Node) (leaves : LeavesForIssu
       ∙ (drop_end (its_settings ++ listed ++ own ++ ledgers ++ reports) round round_stays
       ∙ (ap (λ (xs : List ℕ). xs ++ own ++ ledgers ++ reports) (drop_end its_settings listed (list_stays i n later leaves.list))
       ∙ (ap (λ (xs : List ℕ). its_settings ++ xs ++ ledgers ++ reports) (rows names i n.me saved later others valid on)
-      ∙ (ap (λ (xs : List ℕ). xs ++ reports) (drop_end (its_settings ++ its_row) ledgers (no_ledgers names i n.me saved later others valid on leaves.ledgers))
-      ∙ sym (append_assoc (its_settings ++ its_row) its_report its_preference))))))
+      ∙ ap (λ (xs : List ℕ). xs ++ reports) (drop_end (its_settings ++ its_row) ledgers (no_ledgers names i n.me saved later others valid on leaves.ledgers))))))
       )
 
 -- A BEAT
@@ -124,19 +116,8 @@ no_first_proposals names i n none =
 -- nothing is told of a round that is what it was
 round_itself : (names : List Named) (i : ℕ) (r : Round) → round_changed names i (round_noted r) r ≡ []
 round_itself names i r =
-    let same : is_same_round (round_noted r) r ≡ true = rw (phase_itself r.phase, mode_itself r.setting.mode, number_itself r.setting.started) refl in
-    let position : List ℕ = unless (is_same_proposal (our_position r) (our_position r)) (position_line names i (our_position r)) in
-    let own : List ℕ = unless (are_same_ids r.positions.own r.positions.own) (set_line names i r.positions.own) in
-    let pending : List ℕ = unless (are_same_ids r.pending r.pending) (pending_line names i r.pending) in
-    ap (λ (xs : List ℕ). xs ++ position ++ own ++ pending) (unless_same (is_same_round (round_noted r) r) (round_line i r) same)
-    ∙ (ap (λ (xs : List ℕ). xs ++ own ++ pending) (unless_same (is_same_proposal (our_position r) (our_position r)) (position_line names i (our_position r)) (proposal_itself (our_position r)))
-    ∙ (ap (λ (xs : List ℕ). xs ++ pending) (unless_same (are_same_ids r.positions.own r.positions.own) (set_line names i r.positions.own) (ids_themselves r.positions.own))
-    ∙ unless_same (are_same_ids r.pending r.pending) (pending_line names i r.pending) (ids_themselves r.pending)))
-
-agreement_itself : (i : ℕ) (r : Round) → agreement_changed i (round_noted r) r ≡ []
-agreement_itself i r =
-    unless_same (count_agreeing r.positions == count_agreeing r.positions && count r.positions == count r.positions) (agreement_line i r)
-    (rw (number_itself (count_agreeing r.positions), number_itself (count r.positions)) refl)
+    part_stays names i r r refl refl refl refl
+    ∙ unless_same (are_same_ids r.pending r.pending) (pending_line names i r.pending) (ids_themselves r.pending)
 
 module _ (names : List Named) (i : ℕ) (n later : Node) (leaves : LeavesForBeat n later) (none : count n.round.positions ≡ 0) where
   abbrev noted_before : List NotedMember
@@ -146,10 +127,7 @@ module _ (names : List Named) (i : ℕ) (n later : Node) (leaves : LeavesForBeat
   rows_stay =
       ap (λ (l : TrustedList). flat_map (row_changed names i noted_before later) l.members) leaves.list
       ∙ (same_of_each (row_changed names i noted_before later) nothing_of n.list.members
-      (λ k on.
-      unless_same (is_same_row (row_before noted_before k) (current_of later.rows k)) (row_line names i k (current_of later.rows k))
-      (ap (λ (o : Option Validation). is_same_row o (current_of later.rows k)) (row_of_noted n k n.list.members on)
-      ∙ (ap (λ (rs : List Row). is_same_row (current_of n.rows k) (current_of rs k)) leaves.rows ∙ row_itself (current_of n.rows k))))
+      (λ k on. row_stays names i n later k on (ap (λ (rs : List Row). current_of rs k) leaves.rows))
       ∙ none_of_each n.list.members)
 
   ledgers_stay : ledgers_changed names i (length n.ledgers.headers) later ≡ []
@@ -157,12 +135,8 @@ module _ (names : List Named) (i : ℕ) (n later : Node) (leaves : LeavesForBeat
 
   reports_stay : reports_changed names i (noted n) later ≡ []
   reports_stay =
-      let same : preferred later ≡ preferred n =
-      ap (λ (ls : Ledgers). preferred (record n { ledgers = ls; rows = later.rows; kept = later.kept })) leaves.ledgers
-      ∙ (ap (λ (rs : List Row). preferred (record n { rows = rs; kept = later.kept })) leaves.rows ∙ ap (λ (k : ℕ). preferred (record n { kept = k })) leaves.kept) in
-      ap (λ (xs : List ℕ). xs ++ unless (is_same_report (preferred n) (preferred later)) (prefers_line names i (preferred later)))
-      (unless_same (is_same_last n.last later.last) (report_line names i later.last) (ap (is_same_last n.last) leaves.last ∙ last_itself n.last))
-      ∙ unless_same (is_same_report (preferred n) (preferred later)) (prefers_line names i (preferred later)) (ap (is_same_report (preferred n)) same ∙ report_itself (preferred n))
+      ap (λ (xs : List ℕ). xs ++ unless (is_same_report (preferred n) (preferred later)) (prefers_line names i (preferred later))) (report_stays names i n later leaves.last)
+      ∙ preference_stays names i n later leaves.ledgers leaves.rows leaves.kept
 
   first_proposals : proposals_changed names i noted_before later ≡ proposals_changed names i [] later
   first_proposals =
@@ -202,7 +176,7 @@ module _ (names : List Named) (i : ℕ) (n later : Node) (leaves : LeavesForBeat
   nothing_beaten same =
       ap (λ (xs : List ℕ). xs ++ proposals_changed names i [] later ++ its_agreement) (ap (round_changed names i (round_noted n.round)) same ∙ round_itself names i n.round)
       ∙ (ap (λ (xs : List ℕ). xs ++ its_agreement) (no_first_proposals names i later (ap (λ (r : Round). count r.positions) same ∙ none))
-      ∙ (ap (agreement_changed i (round_noted n.round)) same ∙ agreement_itself i n.round))
+      ∙ (ap (agreement_changed i (round_noted n.round)) same ∙ agreement_stays i n.round n.round refl refl))
 
   pub beat_told_so : beat_told names i n.time n.round.setting.previous (round_noted n.round) later ≡ changed_lines names i (noted n) later
   beat_told_so = by (is_still n.round.setting.previous later.round) refl

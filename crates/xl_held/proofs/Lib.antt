@@ -1,4 +1,5 @@
 pub mod Counting
+mod Staying
 pub mod Untold
 mod Writing
 pub mod Asked

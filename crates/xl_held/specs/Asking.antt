@@ -1,15 +1,15 @@
 -- What a node holds that was asked something within a second, and that it didn't hold before. Source: this project's
 -- own formats.
 use Rattle.std.specs.Prelude.{ℕ, ◌==◌, List, [], ◌++◌}
-use Rattle.xl_core.specs.Node.{Node, preferred}
+use Rattle.xl_core.specs.Node.{Node}
 use Rattle.xl_noted.specs.declared.asked.NotedIssue.{NotedIssue}
 use Rattle.xl_noted.specs.Asking.{is_still}
 use Rattle.xl_noted.specs.Noted.{NotedRound}
-use Rattle.xl_noted.specs.Same.{is_same_last, is_same_number, is_same_report, is_same_row}
+use Rattle.xl_noted.specs.Same.{is_same_number, is_same_row}
 use Rattle.xl_sched.specs.declared.named.Named.{Named}
 use Rattle.xl_validations.specs.Rows.{current_of}
-use Rattle.xl_held.specs.Changes.{agreement_changed, proposals_changed, round_changed, unless}
-use Rattle.xl_held.specs.Lines.{issuing_line, kept_line, prefers_line, report_line, row_line, time_line}
+use Rattle.xl_held.specs.Changes.{agreement_changed, proposals_changed, reports_since, round_changed, unless}
+use Rattle.xl_held.specs.Lines.{issuing_line, kept_line, row_line, time_line}
 
 -- an issue: its kept number and issuing, its own row, the last report and what is preferred
 abbrev pub issue_told : List Named → ℕ → NotedIssue → Node → List ℕ
@@ -19,8 +19,7 @@ issue_told names i b n =
     ++ unless (is_same_number b.failed_save n.failed_save) (issuing_line i n.failed_save)
     ++ unless (is_same_row b.vote.row (current_of n.rows b.vote.member))
     (row_line names i b.vote.member (current_of n.rows b.vote.member))
-    ++ unless (is_same_last b.vote.last n.last) (report_line names i n.last)
-    ++ unless (is_same_report b.vote.preferred (preferred n)) (prefers_line names i (preferred n))
+    ++ reports_since names i b.vote.last b.vote.preferred n
 
 -- of a round in which no member had a position: its own part, the positions, and how many agree
 abbrev pub beaten : List Named → ℕ → NotedRound → Node → List ℕ

@@ -1,6 +1,8 @@
 -- What a node holds that it didn't hold before, in lines. Source: this project's own formats.
-use Rattle.std.specs.Prelude.{ℕ, ◌==◌, ◌&&◌, Bool, nat_lt, List, [], ◌++◌, length, if◌then◌else◌}
+use Rattle.std.specs.Prelude.{ℕ, ◌==◌, ◌&&◌, Bool, nat_lt, List, [], ◌++◌, length, if◌then◌else◌, Option}
 use Rattle.std.specs.List.{flat_map}
+use Rattle.xl_core.specs.declared.last.LastReport.{LastReport}
+use Rattle.xl_core.specs.declared.report.Report.{Report}
 use Rattle.xl_core.specs.Node.{Node, preferred}
 use Rattle.xl_noted.specs.declared.members.NotedMember.{NotedMember}
 use Rattle.xl_noted.specs.Noted.{Noted, NotedRound, position_before, row_before}
@@ -37,11 +39,14 @@ ledgers_changed names i known n =
     (if nat_lt (length n.ledgers.headers) known then known_line i (length n.ledgers.headers) else [])
     ++ ledger_lines names i n.ledgers.headers known
 
--- its last report, and what it prefers
+-- its last report and what it prefers, if they aren't these
+abbrev pub reports_since : List Named → ℕ → LastReport → Option Report → Node → List ℕ
+reports_since names i last before n =
+    unless (is_same_last last n.last) (report_line names i n.last)
+    ++ unless (is_same_report before (preferred n)) (prefers_line names i (preferred n))
+
 abbrev pub reports_changed : List Named → ℕ → Noted → Node → List ℕ
-reports_changed names i b n =
-    unless (is_same_last b.last n.last) (report_line names i n.last)
-    ++ unless (is_same_report b.preferred (preferred n)) (prefers_line names i (preferred n))
+reports_changed names i b n = reports_since names i b.last b.preferred n
 
 abbrev pub is_same_round : NotedRound → Round → Bool
 is_same_round b r =
@@ -64,9 +69,13 @@ proposal_changed names i b n m =
 abbrev pub proposals_changed : List Named → ℕ → List NotedMember → Node → List ℕ
 proposals_changed names i b n = flat_map (λ m. proposal_changed names i b n m) n.list.members
 
+-- how many of the members' positions name its set, if they and the positions aren't as many as these
+abbrev pub agreement_since : ℕ → ℕ → ℕ → Round → List ℕ
+agreement_since i agreeing proposers r =
+    unless (agreeing == count_agreeing r.positions && proposers == count r.positions) (agreement_line i r)
+
 abbrev pub agreement_changed : ℕ → NotedRound → Round → List ℕ
-agreement_changed i b r =
-    unless (b.agreeing == count_agreeing r.positions && b.proposers == count r.positions) (agreement_line i r)
+agreement_changed i b r = agreement_since i b.agreeing b.proposers r
 
 -- all that it holds and didn't hold before
 abbrev pub changed_lines : List Named → ℕ → Noted → Node → List ℕ

@@ -17,11 +17,15 @@ use Rattle.xl_wire.specs.declared.validation.Validation.{Validation}
 use Rattle.xl_world.specs.Plans.{up_from}
 use Rattle.xl_held.specs.Words.{issuing_text, last_text, mode_text, phase_text, position_text, report_text, row_text}
 
+-- a word and a number
+abbrev pub number_line : ℕ → List ℕ → ℕ → List ℕ
+number_line i word number = codes "held " ++ decimal i ++ word ++ decimal number ++ newline
+
 abbrev pub time_line : ℕ → ℕ → List ℕ
-time_line i time = codes "held " ++ decimal i ++ codes " time " ++ decimal time ++ newline
+time_line i time = number_line i (codes " time ") time
 
 abbrev pub kept_line : ℕ → ℕ → List ℕ
-kept_line i kept = codes "held " ++ decimal i ++ codes " kept " ++ decimal kept ++ newline
+kept_line i kept = number_line i (codes " kept ") kept
 
 abbrev pub issuing_line : ℕ → Option ℕ → List ℕ
 issuing_line i failed = codes "held " ++ decimal i ++ codes " issuing " ++ issuing_text failed ++ newline
@@ -36,7 +40,7 @@ row_line names i m row =
 
 -- it knows no more than so many ledgers
 abbrev pub known_line : ℕ → ℕ → List ℕ
-known_line i count = codes "held " ++ decimal i ++ codes " known " ++ decimal count ++ newline
+known_line i count = number_line i (codes " known ") count
 
 -- the ledger of a place
 abbrev pub ledger_line : List Named → ℕ → List Header → ℕ → List ℕ
@@ -65,11 +69,15 @@ round_line i r =
 abbrev pub position_line : List Named → ℕ → Proposal → List ℕ
 position_line names i p = codes "held " ++ decimal i ++ codes " position " ++ proposal_text names p ++ newline
 
+-- a word and ids
+abbrev pub ids_line : List Named → ℕ → List ℕ → List TxId → List ℕ
+ids_line names i word ids = codes "held " ++ decimal i ++ word ++ ids_text names ids ++ newline
+
 abbrev pub set_line : List Named → ℕ → List TxId → List ℕ
-set_line names i ids = codes "held " ++ decimal i ++ codes " set " ++ ids_text names ids ++ newline
+set_line names i ids = ids_line names i (codes " set ") ids
 
 abbrev pub pending_line : List Named → ℕ → List TxId → List ℕ
-pending_line names i ids = codes "held " ++ decimal i ++ codes " pending " ++ ids_text names ids ++ newline
+pending_line names i ids = ids_line names i (codes " pending ") ids
 
 -- a member's position
 abbrev pub proposal_line : List Named → ℕ → ℕ → Option Proposal → List ℕ

@@ -8,7 +8,7 @@ ghost use Rattle.xl_noted.specs.Seen.{round_seen};
 
 use crate::hearing::push_heard_row;
 use crate::members::push_new_proposals;
-use crate::reports::{push_new_preference, push_new_report};
+use crate::reports::push_new_reports;
 use crate::rounds::{push_new_agreement, push_new_part};
 use crate::settings::{push_new_issuing, push_new_kept, push_new_time};
 use xl_base::{NodeNo, OutOfMemory};
@@ -34,14 +34,14 @@ pub fn push_issue_told(
     push_new_kept(text, number, before.kept, node.kept())?;
     push_new_issuing(text, number, &before.failed_save, &node.failed_save())?;
     push_heard_row(text, reader, hashed, number, &before.vote, node)?;
-    push_new_report(text, reader, hashed, number, &before.vote.last, node.last())?;
-    push_new_preference(
+    push_new_reports(
         text,
         reader,
         hashed,
         number,
+        &before.vote.last,
         &before.vote.preferred,
-        &node.preferred(),
+        node,
     )
 }
 
@@ -77,7 +77,7 @@ fn push_beat(
     let round = node.round();
     push_new_part(text, reader, hashed, number, before, round)?;
     push_first_proposals(text, reader, hashed, number, node)?;
-    push_new_agreement(text, number, before, round)
+    push_new_agreement(text, number, before.agreeing, before.proposers, round)
 }
 
 /// The same, unless the round is open still, on the same ledger.

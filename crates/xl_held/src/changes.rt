@@ -33,10 +33,24 @@ pub fn push_changed(
     push_new_settings(text, number, before, node)?;
     push_new_rows(text, reader, hashed, number, members, node)?;
     push_new_ledgers(text, reader, hashed, number, before.ledgers, node)?;
-    push_new_reports(text, reader, hashed, number, before, node)?;
+    push_new_reports(
+        text,
+        reader,
+        hashed,
+        number,
+        &before.last,
+        &before.preferred,
+        node,
+    )?;
     push_new_part(text, reader, hashed, number, &before.round, round)?;
     push_new_proposals(text, reader, hashed, number, members, node)?;
-    push_new_agreement(text, number, &before.round, round)
+    push_new_agreement(
+        text,
+        number,
+        before.round.agreeing,
+        before.round.proposers,
+        round,
+    )
 }
 
 /// What a node of this number holds that was just opened.

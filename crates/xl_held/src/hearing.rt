@@ -1,17 +1,17 @@
 // What a node holds that has heard something of a member.
-ghost use Rattle.std.specs.Prelude.{◌≡◌, ◌==◌, ◌&&◌, ◌++◌, length, OnOk};
+ghost use Rattle.std.specs.Prelude.{◌≡◌, ◌==◌, ◌++◌, length, OnOk};
 ghost use Rattle.std.specs.String.{string_bytes};
 ghost use Rattle.xl_held.specs.Changes.{unless};
 ghost use Rattle.xl_held.specs.Hearing.{header_heard, proposal_heard, set_heard, tx_heard, vote_heard};
-ghost use Rattle.xl_held.specs.Lines.{agreement_line, pending_line, proposal_line, row_line};
+ghost use Rattle.xl_held.specs.Lines.{pending_line, proposal_line, row_line};
 ghost use Rattle.xl_noted.specs.Same.{is_same_position as is_same_position_by, is_same_row as is_same_row_by};
-ghost use Rattle.xl_rounds.specs.Positions.{count_agreeing, count, position_of};
+ghost use Rattle.xl_rounds.specs.Positions.{position_of};
 ghost use Rattle.xl_validations.specs.Rows.{current_of};
 
 use crate::ledgers::push_new_ledgers;
 use crate::members::{push_proposal_line, push_row_line};
-use crate::reports::{push_new_preference, push_new_report};
-use crate::rounds::{push_agreement_line, push_pending_line};
+use crate::reports::{push_new_preference, push_new_reports};
+use crate::rounds::{push_ids_line, push_new_agreement};
 use crate::settings::push_new_time;
 use xl_base::{Millis, NodeNo, OutOfMemory, TxId};
 use xl_core::Node;
@@ -63,30 +63,6 @@ fn push_heard_position(
     push_proposal_line(text, reader, hashed, number, before.member, &position)
 }
 
-fn has_same_agreement(before: &NotedPosition, round: &Round) -> bool
-    ensures { result
-        ≡ (before.now.agreeing == count_agreeing round.now.positions && before.now.proposers == count round.now.positions) }
-{
-    before.agreeing == round.agreeing() && before.proposers == round.proposers()
-}
-
-/// How many of the members' positions name its set, if that is new.
-fn push_heard_agreement(
-    text: &mut String,
-    number: NodeNo,
-    before: &NotedPosition,
-    round: &Round,
-) -> Result<(), OutOfMemory>
-    ensures { OnOk result (string_bytes text.new ≡ string_bytes text.old
-        ++ unless (before.now.agreeing == count_agreeing round.now.positions && before.now.proposers == count round.now.positions)
-        (agreement_line number round.now)) }
-{
-    if has_same_agreement(before, round) {
-        return Ok(());
-    }
-    push_agreement_line(text, number, round)
-}
-
 /// The transactions that are pending, if they aren't as many as before.
 fn push_more_pending(
     text: &mut String,
@@ -102,7 +78,7 @@ fn push_more_pending(
     if before == ids.len() {
         return Ok(());
     }
-    push_pending_line(text, reader, hashed, number, ids)
+    push_ids_line(text, reader, hashed, number, " pending ", ids)
 }
 
 /// What a node of this number holds that it didn't hold before it heard a validation.
@@ -119,14 +95,14 @@ pub fn push_vote_heard(
 {
     push_new_time(text, number, before.time, node.time())?;
     push_heard_row(text, reader, hashed, number, before, node)?;
-    push_new_report(text, reader, hashed, number, &before.last, node.last())?;
-    push_new_preference(
+    push_new_reports(
         text,
         reader,
         hashed,
         number,
+        &before.last,
         &before.preferred,
-        &node.preferred(),
+        node,
     )
 }
 
@@ -144,7 +120,13 @@ pub fn push_proposal_heard(
 {
     push_new_time(text, number, before.time, node.time())?;
     push_heard_position(text, reader, hashed, number, before, node.round())?;
-    push_heard_agreement(text, number, before, node.round())
+    push_new_agreement(
+        text,
+        number,
+        before.agreeing,
+        before.proposers,
+        node.round(),
+    )
 }
 
 /// The same before it heard a header.

@@ -4,12 +4,12 @@ ghost use Rattle.std.specs.String.{string_bytes};
 ghost use Rattle.xl_held.specs.Changes.{ledgers_changed};
 ghost use Rattle.xl_held.specs.Lines.{known_line, ledger_line, ledger_lines};
 
-use crate::words::{push_held, push_last_number};
+use crate::words::{push_held, push_last_number, push_number_line};
 use xl_base::{NodeNo, OutOfMemory};
 use xl_core::Node;
 use xl_ledger::Registry;
 use xl_sched::Reader;
-use xl_told::{Hashed, push_id, push_ledger as push_ledger_of, push_numbered, push_of};
+use xl_told::{Hashed, push_id, push_ledger as push_ledger_of};
 use xl_trie::Trie;
 
 /// The ledger of a place.
@@ -66,10 +66,7 @@ fn push_fewer(
     if count >= known {
         return Ok(());
     }
-    push_of(text, "held ", number)?;
-    push_numbered(text, " known ", u64::from(count))?;
-    text.push('\n')?;
-    Ok(())
+    push_number_line(text, number, " known ", u64::from(count))
 }
 
 /// What is new of the ledgers that it knows.

@@ -1,15 +1,14 @@
 // What a node last reported, and what it prefers.
 ghost use Rattle.std.specs.Prelude.{◌≡◌, ◌++◌, OnOk};
 ghost use Rattle.std.specs.String.{string_bytes};
-ghost use Rattle.xl_held.specs.Changes.{reports_changed, reports_opened, unless};
+ghost use Rattle.xl_held.specs.Changes.{reports_opened, reports_since, unless};
 ghost use Rattle.xl_held.specs.Lines.{prefers_line, report_line};
 ghost use Rattle.xl_noted.specs.Same.{is_same_last, is_same_report};
-ghost use Rattle.xl_noted.specs.Seen.{noted_seen};
 
 use crate::words::{push_held, push_last, push_report};
 use xl_base::{NodeNo, OutOfMemory};
 use xl_core::{LastReport, Node, Report};
-use xl_noted::{Noted, is_same_last as has_same_last, is_same_report as has_same_report};
+use xl_noted::{is_same_last as has_same_last, is_same_report as has_same_report};
 use xl_sched::Reader;
 use xl_told::Hashed;
 use xl_trie::Trie;
@@ -46,7 +45,7 @@ fn push_prefers_line(
     Ok(())
 }
 
-pub fn push_new_report(
+fn push_new_report(
     text: &mut String,
     reader: &Reader,
     hashed: &mut Hashed,
@@ -80,27 +79,21 @@ pub fn push_new_preference(
     push_prefers_line(text, reader, hashed, number, ledger)
 }
 
-/// What is new of its last report and of what it prefers.
+/// Its last report and what it prefers, if they aren't these.
 pub fn push_new_reports(
     text: &mut String,
     reader: &Reader,
     hashed: &mut Hashed,
     number: NodeNo,
-    before: &Noted,
+    last: &LastReport,
+    preferred: &Option<Report>,
     node: &Node<Trie>,
 ) -> Result<(), OutOfMemory>
     ensures { OnOk result (string_bytes text.new
-        ≡ string_bytes text.old ++ reports_changed reader.now.names number (noted_seen before.now) node.now) }
+        ≡ string_bytes text.old ++ reports_since reader.now.names number last.now preferred.now node.now) }
 {
-    push_new_report(text, reader, hashed, number, &before.last, node.last())?;
-    push_new_preference(
-        text,
-        reader,
-        hashed,
-        number,
-        &before.preferred,
-        &node.preferred(),
-    )
+    push_new_report(text, reader, hashed, number, last, node.last())?;
+    push_new_preference(text, reader, hashed, number, preferred, &node.preferred())
 }
 
 /// Its last report, and what it prefers.

@@ -1,8 +1,8 @@
 // A node's own part in its round.
 ghost use Rattle.std.specs.Prelude.{◌≡◌, ◌==◌, ◌&&◌, ◌++◌, OnOk};
 ghost use Rattle.std.specs.String.{string_bytes};
-ghost use Rattle.xl_held.specs.Changes.{agreement_changed, is_same_round, round_changed, round_opened, unless};
-ghost use Rattle.xl_held.specs.Lines.{agreement_line, pending_line, position_line, round_line, set_line};
+ghost use Rattle.xl_held.specs.Changes.{agreement_since, is_same_round, round_changed, round_opened, unless};
+ghost use Rattle.xl_held.specs.Lines.{agreement_line, ids_line, position_line, round_line};
 ghost use Rattle.xl_noted.specs.Same.{are_same_ids, is_same_proposal};
 ghost use Rattle.xl_noted.specs.Seen.{round_seen};
 ghost use Rattle.xl_rounds.specs.Positions.{count_agreeing, count};
@@ -44,33 +44,19 @@ fn push_position_line(
     Ok(())
 }
 
-fn push_set_line(
+/// A line of a word and ids.
+pub fn push_ids_line(
     text: &mut String,
     reader: &Reader,
     hashed: &mut Hashed,
     number: NodeNo,
+    word: &str,
     ids: &[TxId],
 ) -> Result<(), OutOfMemory>
     ensures { OnOk result (string_bytes text.new
-        ≡ string_bytes text.old ++ set_line reader.now.names number ids.now) }
+        ≡ string_bytes text.old ++ ids_line reader.now.names number word.now ids.now) }
 {
-    push_held(text, number, " set ")?;
-    push_ids(text, reader, hashed, ids)?;
-    text.push('\n')?;
-    Ok(())
-}
-
-pub fn push_pending_line(
-    text: &mut String,
-    reader: &Reader,
-    hashed: &mut Hashed,
-    number: NodeNo,
-    ids: &[TxId],
-) -> Result<(), OutOfMemory>
-    ensures { OnOk result (string_bytes text.new
-        ≡ string_bytes text.old ++ pending_line reader.now.names number ids.now) }
-{
-    push_held(text, number, " pending ")?;
+    push_held(text, number, word)?;
     push_ids(text, reader, hashed, ids)?;
     text.push('\n')?;
     Ok(())
@@ -128,38 +114,23 @@ fn push_new_position(
     push_position_line(text, reader, hashed, number, position)
 }
 
-fn push_new_set(
+/// Ids behind their word, if they are new.
+fn push_new_ids(
     text: &mut String,
     reader: &Reader,
     hashed: &mut Hashed,
     number: NodeNo,
+    word: &str,
     before: &[TxId],
     ids: &[TxId],
 ) -> Result<(), OutOfMemory>
     ensures { OnOk result (string_bytes text.new ≡ string_bytes text.old
-        ++ unless (are_same_ids before.now ids.now) (set_line reader.now.names number ids.now)) }
+        ++ unless (are_same_ids before.now ids.now) (ids_line reader.now.names number word.now ids.now)) }
 {
     if have_same_ids(before, ids) {
         return Ok(());
     }
-    push_set_line(text, reader, hashed, number, ids)
-}
-
-fn push_new_pending(
-    text: &mut String,
-    reader: &Reader,
-    hashed: &mut Hashed,
-    number: NodeNo,
-    before: &[TxId],
-    ids: &[TxId],
-) -> Result<(), OutOfMemory>
-    ensures { OnOk result (string_bytes text.new ≡ string_bytes text.old
-        ++ unless (are_same_ids before.now ids.now) (pending_line reader.now.names number ids.now)) }
-{
-    if have_same_ids(before, ids) {
-        return Ok(());
-    }
-    push_pending_line(text, reader, hashed, number, ids)
+    push_ids_line(text, reader, hashed, number, word, ids)
 }
 
 /// What is new of its own part in its round.
@@ -183,42 +154,44 @@ pub fn push_new_part(
         &before.position,
         &round.position(),
     )?;
-    push_new_set(
+    push_new_ids(
         text,
         reader,
         hashed,
         number,
+        " set ",
         before.own.as_slice(),
         round.own_set(),
     )?;
-    push_new_pending(
+    push_new_ids(
         text,
         reader,
         hashed,
         number,
+        " pending ",
         before.pending.as_slice(),
         round.pending(),
     )
 }
 
-fn has_same_agreement(before: &NotedRound, round: &Round) -> bool
-    ensures { result
-        ≡ (before.now.agreeing == count_agreeing round.now.positions && before.now.proposers == count round.now.positions) }
+fn has_same_agreement(agreeing: u32, proposers: u32, round: &Round) -> bool
+    ensures { result ≡ (agreeing == count_agreeing round.now.positions && proposers == count round.now.positions) }
 {
-    before.agreeing == round.agreeing() && before.proposers == round.proposers()
+    agreeing == round.agreeing() && proposers == round.proposers()
 }
 
-/// How many of the members' positions name its set, if that is new.
+/// How many of the members' positions name its set, if they and the positions aren't as many as these.
 pub fn push_new_agreement(
     text: &mut String,
     number: NodeNo,
-    before: &NotedRound,
+    agreeing: u32,
+    proposers: u32,
     round: &Round,
 ) -> Result<(), OutOfMemory>
     ensures { OnOk result (string_bytes text.new
-        ≡ string_bytes text.old ++ agreement_changed number (round_seen before.now) round.now) }
+        ≡ string_bytes text.old ++ agreement_since number agreeing proposers round.now) }
 {
-    if has_same_agreement(before, round) {
+    if has_same_agreement(agreeing, proposers, round) {
         return Ok(());
     }
     push_agreement_line(text, number, round)
@@ -237,6 +210,6 @@ pub fn push_part(
 {
     push_round_line(text, number, round)?;
     push_position_line(text, reader, hashed, number, &round.position())?;
-    push_set_line(text, reader, hashed, number, round.own_set())?;
-    push_pending_line(text, reader, hashed, number, round.pending())
+    push_ids_line(text, reader, hashed, number, " set ", round.own_set())?;
+    push_ids_line(text, reader, hashed, number, " pending ", round.pending())
 }

@@ -2,35 +2,17 @@
 ghost use Rattle.std.specs.Prelude.{◌≡◌, ◌==◌, ◌++◌, OnOk};
 ghost use Rattle.std.specs.String.{string_bytes};
 ghost use Rattle.xl_held.specs.Changes.{settings_changed, settings_opened, unless};
-ghost use Rattle.xl_held.specs.Lines.{issuing_line, kept_line, list_line, time_line};
+ghost use Rattle.xl_held.specs.Lines.{issuing_line, kept_line, list_line, number_line, time_line};
 ghost use Rattle.xl_noted.specs.Same.{is_same_list, is_same_number};
 ghost use Rattle.xl_noted.specs.Seen.{noted_seen};
 
-use crate::words::{push_held, push_issuing};
+use crate::words::{push_held, push_issuing, push_number_line};
 use xl_base::{Millis, NodeNo, OutOfMemory, Seq};
 use xl_core::Node;
 use xl_lists::List;
 use xl_noted::{Noted, is_same_list as has_same_list, is_same_number as has_same_number};
-use xl_told::{push_list, push_numbered, push_of};
+use xl_told::push_list;
 use xl_trie::Trie;
-
-fn push_time(text: &mut String, node: NodeNo, time: Millis) -> Result<(), OutOfMemory>
-    ensures { OnOk result (string_bytes text.new ≡ string_bytes text.old ++ time_line node time) }
-{
-    push_of(text, "held ", node)?;
-    push_numbered(text, " time ", time)?;
-    text.push('\n')?;
-    Ok(())
-}
-
-fn push_kept(text: &mut String, node: NodeNo, kept: Seq) -> Result<(), OutOfMemory>
-    ensures { OnOk result (string_bytes text.new ≡ string_bytes text.old ++ kept_line node kept) }
-{
-    push_of(text, "held ", node)?;
-    push_numbered(text, " kept ", u64::from(kept))?;
-    text.push('\n')?;
-    Ok(())
-}
 
 fn push_issuing_line(
     text: &mut String,
@@ -54,6 +36,23 @@ fn push_list_line(text: &mut String, node: NodeNo, list: &List) -> Result<(), Ou
     Ok(())
 }
 
+/// A number behind its word, if it is new.
+fn push_new_number(
+    text: &mut String,
+    node: NodeNo,
+    word: &str,
+    before: u64,
+    number: u64,
+) -> Result<(), OutOfMemory>
+    ensures { OnOk result (string_bytes text.new
+        ≡ string_bytes text.old ++ unless (before == number) (number_line node word.now number)) }
+{
+    if before == number {
+        return Ok(());
+    }
+    push_number_line(text, node, word, number)
+}
+
 /// Its time, if that is new.
 pub fn push_new_time(
     text: &mut String,
@@ -64,10 +63,7 @@ pub fn push_new_time(
     ensures { OnOk result (string_bytes text.new
         ≡ string_bytes text.old ++ unless (before == time) (time_line node time)) }
 {
-    if before == time {
-        return Ok(());
-    }
-    push_time(text, node, time)
+    push_new_number(text, node, " time ", before, time)
 }
 
 pub fn push_new_kept(
@@ -79,10 +75,7 @@ pub fn push_new_kept(
     ensures { OnOk result (string_bytes text.new
         ≡ string_bytes text.old ++ unless (before == kept) (kept_line node kept)) }
 {
-    if before == kept {
-        return Ok(());
-    }
-    push_kept(text, node, kept)
+    push_new_number(text, node, " kept ", u64::from(before), u64::from(kept))
 }
 
 pub fn push_new_issuing(
@@ -139,8 +132,8 @@ pub fn push_settings(
 ) -> Result<(), OutOfMemory>
     ensures { OnOk result (string_bytes text.new ≡ string_bytes text.old ++ settings_opened number node.now) }
 {
-    push_time(text, number, node.time())?;
-    push_kept(text, number, node.kept())?;
+    push_number_line(text, number, " time ", node.time())?;
+    push_number_line(text, number, " kept ", u64::from(node.kept()))?;
     push_issuing_line(text, number, &node.failed_save())?;
     push_list_line(text, number, node.list())
 }

@@ -2,6 +2,7 @@
 ghost use Rattle.std.specs.Prelude.{◌≡◌, ◌++◌, codes, decimal, OnOk};
 ghost use Rattle.std.specs.String.{string_bytes};
 ghost use Rattle.xl_running.specs.Texts.{newline, space};
+ghost use Rattle.xl_held.specs.Lines.{number_line};
 ghost use Rattle.xl_held.specs.Words.{
   issuing_text,
   last_text,
@@ -34,6 +35,21 @@ pub fn push_last_number(text: &mut String, number: u64) -> Result<(), OutOfMemor
     ensures { OnOk result (string_bytes text.new ≡ string_bytes text.old ++ space ++ decimal number ++ newline) }
 {
     push_numbered(text, " ", number)?;
+    text.push('\n')?;
+    Ok(())
+}
+
+/// A line of a word and a number.
+pub fn push_number_line(
+    text: &mut String,
+    node: NodeNo,
+    word: &str,
+    number: u64,
+) -> Result<(), OutOfMemory>
+    ensures { OnOk result (string_bytes text.new ≡ string_bytes text.old ++ number_line node word.now number) }
+{
+    push_of(text, "held ", node)?;
+    push_numbered(text, word, number)?;
     text.push('\n')?;
     Ok(())
 }
