@@ -55,10 +55,8 @@ lines_same calls more e = lines_more calls more ∙ ap (λ t. lines_of calls ++ 
 
 reason_later : (turns : ℕ) (calls : List Call) (phase : Phase) (mid new : ℕ) (e : Ending)
     → (mid ≡ turns → new ≡ turns) → IsReason turns calls phase mid e → IsReason turns calls phase new e
-reason_later turns calls phase mid new ending.Done full r = r
-reason_later turns calls phase mid new ending.WriteFault full r = r
-reason_later turns calls phase mid new ending.OutOfMemory full r = r
 reason_later turns calls phase mid new (ending.StoreFull n) full r = (r.0, r.1, full r.2)
+reason_later turns calls phase mid new other full r = r
 
 -- a list that is asked for hands out no report
 silent_call : (now : ℕ) (list : TrustedList) (refusal : Option Refusal) → lines_of (relist now list refusal ∷ []) ≡ []

@@ -39,10 +39,8 @@ module _ (old mid new : Output) (xs ys : List ℕ) where
 
   -- the end of the second text is the end of both
   pub written_both : (e : Ending) → Adds xs old mid → IsWritten e ys mid new → IsWritten e (xs ++ ys) old new
-  written_both ending.Done a w = adds_both a w
   written_both ending.WriteFault a w = adds_then_less a w
-  written_both ending.OutOfMemory a w = adds_both a w
-  written_both (ending.StoreFull n) a w = adds_both a w
+  written_both other a w = adds_both a w
 
 -- what was to follow is missing too
 pub less_of_more : (old new : Output) (xs ys : List ℕ) → AddsLess xs old new → AddsLess (xs ++ ys) old new
