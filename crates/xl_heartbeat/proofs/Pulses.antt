@@ -36,9 +36,9 @@ use Rattle.xl_heartbeat.specs.Relisting.{made_at, relist, set_after, Relists, Is
 use Rattle.xl_heartbeat.specs.Beats.{timer, reports, Phase, IsDue, after_beat, is_over, IsBeating, IsReason, Heartbeat, TakesReports, lines_of, stop_calls}
 use Rattle.xl_heartbeat.specs.Rooms.{room}
 use Rattle.xl_heartbeat.specs.Going.{Beating, Beaten, Follows, Relisted, Stops, ending_of, after_reports}
-use Rattle.xl_heartbeat.proofs.Writing.{adds_none, adds_both, written_both}
+use Rattle.xl_heartbeat.proofs.Writing.{adds_none, adds_both, adds_then_less}
 
-lines_more : (calls more : List Call) → lines_of (calls ++ more) ≡ lines_of calls ++ lines_of more
+pub lines_more : (calls more : List Call) → lines_of (calls ++ more) ≡ lines_of calls ++ lines_of more
 lines_more calls more =
     let f : Call → _ = λ (call : Call). handed_in call.answer in
     ap (flat_map report_line) (flat_map-append f calls more)
@@ -53,12 +53,10 @@ adds_as (refused.StoreFull n) text old new a = a
 lines_same : (calls more : List Call) → lines_of more ≡ [] → lines_of (calls ++ more) ≡ lines_of calls
 lines_same calls more e = lines_more calls more ∙ ap (λ t. lines_of calls ++ t) e ∙ append-nil (lines_of calls)
 
-reason_later : (turns : ℕ) (calls : List Call) (phase : Phase) (mid new : ℕ) (e : Ending)
+pub reason_later : (turns : ℕ) (calls : List Call) (phase : Phase) (mid new : ℕ) (e : Ending)
     → (mid ≡ turns → new ≡ turns) → IsReason turns calls phase mid e → IsReason turns calls phase new e
-reason_later turns calls phase mid new ending.Done full r = r
-reason_later turns calls phase mid new ending.WriteFault full r = r
-reason_later turns calls phase mid new ending.OutOfMemory full r = r
 reason_later turns calls phase mid new (ending.StoreFull n) full r = (r.0, r.1, full r.2)
+reason_later turns calls phase mid new other full r = r
 
 -- a list that is asked for hands out no report
 silent_call : (now : ℕ) (list : TrustedList) (refusal : Option Refusal) → lines_of (relist now list refusal ∷ []) ≡ []
@@ -150,18 +148,20 @@ module _ (start : Core) (turns : ℕ) (may : ℕ → Bool) (pulse : Pulse) (k0 :
   taken_done false k new o o' now standing is b t =
       taken_all (Phase.Beats standing) k new o o' now standing (rw is refl) b t
 
-  -- the call had no turn
-  pub cut : (e : StoreEnd) (p : Phase) (k new : Knowledge Entry) (o : Output) → Made start k new []
-      → k.drawn ≤ new.drawn → (b : Beating start may pulse k0 o0 p k o)
+  -- the call had no turn, and nothing was written
+  pub cut : (e : StoreEnd) (p : Phase) (k new : Knowledge Entry) (o o' : Output) → Made start k new []
+      → k.drawn ≤ new.drawn → Adds [] o o' → (b : Beating start may pulse k0 o0 p k o)
       → IsReason turns b.calls p new.drawn (ending_of e)
-      → Beaten start turns may pulse k0 o0 (ending_of e) new o
-  cut e p k new o made later b reason = record {
+      → Beaten start turns may pulse k0 o0 (ending_of e) new o'
+  cut e p k new o o' made later nothing b reason = record {
     calls = b.calls;
     phase = p;
     run = b.run;
     made = subst (λ cs. Made start k0 new cs) (append-nil b.calls) (made_both start k0 k new b.calls [] b.made made);
     drawn = let q = b.drawn in omega arith;
-    written = adds_as e (lines_of b.calls) o0 o b.adds;
+    written = adds_as e (lines_of b.calls) o0 o'
+        (subst (λ l. Adds l o0 o') (append-nil (lines_of b.calls))
+        (adds_both o0 o o' (lines_of b.calls) [] b.adds nothing));
     reason = reason;
   }
 
@@ -176,30 +176,15 @@ module _ (start : Core) (turns : ℕ) (may : ℕ → Bool) (pulse : Pulse) (k0 :
     run = IsBeating.takes b.calls now standing t.handed b.run;
     made = made_both start k0 k new b.calls (reports t.handed ∷ []) b.made t.made;
     drawn = let p = b.drawn in let q = t.drawn in omega arith;
-    written = subst (λ l. IsWritten ending.WriteFault l o0 o') (sym (lines_more b.calls (reports t.handed ∷ [])))
-        (written_both o0 o o' (lines_of b.calls) (lines_of (reports t.handed ∷ [])) ending.WriteFault b.adds t.written);
+    written = subst (λ l. AddsLess l o0 o') (sym (lines_more b.calls (reports t.handed ∷ [])))
+        (adds_then_less o0 o o' (lines_of b.calls) (lines_of (reports t.handed ∷ [])) b.adds t.written);
     reason = (t.handed, (b.calls, refl));
   }
-  taken ending.OutOfMemory k new o o' now standing b t = record {
-    calls = b.calls ++ [];
-    phase = Phase.Takes now standing;
-    run = subst (λ cs. IsBeating may pulse cs (Phase.Takes now standing)) (sym (append-nil b.calls)) b.run;
-    made = made_both start k0 k new b.calls [] b.made t.made;
-    drawn = let p = b.drawn in let q = t.drawn in omega arith;
-    written = subst (λ l. Adds l o0 o') (sym (lines_more b.calls []))
-        (adds_both o0 o o' (lines_of b.calls) [] b.adds t.written);
-    reason = tt;
-  }
-  taken (ending.StoreFull n) k new o o' now standing b t = record {
-    calls = b.calls ++ [];
-    phase = Phase.Takes now standing;
-    run = subst (λ cs. IsBeating may pulse cs (Phase.Takes now standing)) (sym (append-nil b.calls)) b.run;
-    made = made_both start k0 k new b.calls [] b.made t.made;
-    drawn = let p = b.drawn in let q = t.drawn in omega arith;
-    written = subst (λ l. Adds l o0 o') (sym (lines_more b.calls []))
-        (adds_both o0 o o' (lines_of b.calls) [] b.adds t.written);
-    reason = (tt, t.full.0, t.full.1);
-  }
+  taken ending.OutOfMemory k new o o' now standing b t =
+      cut refused.OutOfMemory (Phase.Takes now standing) k new o o' t.made t.drawn t.written b tt
+  taken (ending.StoreFull n) k new o o' now standing b t =
+      cut (refused.StoreFull n) (Phase.Takes now standing) k new o o' t.made t.drawn t.written b
+      (tt, t.full.0, t.full.1)
 
   pub finished : (end : BeatEnd) (mid new : Knowledge Entry) (o : Output)
       → Beaten start turns may pulse k0 o0 end.run mid o → Stops start turns mid end.stop new
@@ -234,8 +219,8 @@ module _ {B K : Type 0} (store : Store B K) where
       → Beating (start_of store) may pulse k0 o0 phase (known old) o → Refused store old e new
       → Beaten (start_of store) (turns_of store) may pulse k0 o0 (ending_of e) (known new) o
   not_called may pulse k0 o0 phase due old new o e b r =
-      cut (start_of store) (turns_of store) may pulse k0 o0 e phase (known old) (known new) o r.made
-      (refused_later (known old) (known new) e r.why) b
+      cut (start_of store) (turns_of store) may pulse k0 o0 e phase (known old) (known new) o o r.made
+      (refused_later (known old) (known new) e r.why) (adds_none o) b
       (refused_reason phase due (known old) (known new) e b.calls r.why)
 
   -- reports had no turn

@@ -9,10 +9,8 @@ use Rattle.xl_base.specs.Faults.{Rose}
 use Rattle.xl_io.specs.Sinks.{GrewByFront, GrewByLess}
 use Rattle.xl_io.proofs.Growing.{append_known-none, append_known-twice}
 use Rattle.xl_core.specs.declared.report.Report.{Report}
-use Rattle.xl_heartbeat.specs.declared.ends.Ending.{Ending}
-use Rattle.xl_heartbeat.specs.declared.ends.Ending.TheVariants as ending
 use Rattle.xl_heartbeat.specs.Lines.{report_line, report_lines}
-use Rattle.xl_heartbeat.specs.Outputs.{Output, Adds, AddsLess, IsWritten}
+use Rattle.xl_heartbeat.specs.Outputs.{Output, Adds, AddsLess}
 
 pub adds_none : (o : Output) → Adds [] o o
 adds_none o = record { held = sym (append_known-none o.held); later = omega arith }
@@ -36,13 +34,6 @@ module _ (old mid new : Output) (xs ys : List ℕ) where
         held = f.held ∙ ap (λ known. append_known known f.written) a.held ∙ append_known-twice old.held xs f.written;
       } in
       record { held = (front, b.held.1); failed = let p = a.later in let q = b.failed in omega arith }
-
-  -- the end of the second text is the end of both
-  pub written_both : (e : Ending) → Adds xs old mid → IsWritten e ys mid new → IsWritten e (xs ++ ys) old new
-  written_both ending.Done a w = adds_both a w
-  written_both ending.WriteFault a w = adds_then_less a w
-  written_both ending.OutOfMemory a w = adds_both a w
-  written_both (ending.StoreFull n) a w = adds_both a w
 
 -- what was to follow is missing too
 pub less_of_more : (old new : Output) (xs ys : List ℕ) → AddsLess xs old new → AddsLess (xs ++ ys) old new

@@ -57,10 +57,8 @@ after_beat timing now standing = if is_over timing now then Over else Beats stan
 
 -- a call is to be made next
 abbrev pub IsDue : Phase → Type 0
-IsDue (Beats standing) = Unit {0}
-IsDue (Times now standing) = Unit {0}
-IsDue (Takes now standing) = Unit {0}
 IsDue Over = ⊥
+IsDue other = Unit {0}
 
 -- Beats, as far as they came. Each, at a moment that the clock may give, looks at the text of rolls if that is due, and
 -- asks for the list that the publishers then make if it is another than the one last set. Then it has the timer, and
@@ -126,10 +124,8 @@ taking_calls (ending.StoreFull n) handed = []
 
 -- a full store is named only if all turns are drawn
 abbrev pub IsFull : ℕ → ℕ → Ending → Type 0
-IsFull turns drawn ending.Done = Unit {0}
-IsFull turns drawn ending.WriteFault = Unit {0}
-IsFull turns drawn ending.OutOfMemory = Unit {0}
 IsFull turns drawn (ending.StoreFull n) = (n ≡ turns) × (drawn ≡ turns)
+IsFull turns drawn other = Unit {0}
 
 -- A pass takes reports: its one call stands in the history at the place that the pass gained, and the lines of what it
 -- handed out were added to the output

@@ -25,9 +25,7 @@ ending_of (refused.StoreFull n) = ending.StoreFull n
 -- whether a beat was the last, once its reports were taken
 abbrev pub after_reports : Ending → Bool → Option Ending
 after_reports ending.Done over = if over then Some ending.Done else None
-after_reports ending.WriteFault over = Some ending.WriteFault
-after_reports ending.OutOfMemory over = Some ending.OutOfMemory
-after_reports (ending.StoreFull n) over = Some (ending.StoreFull n)
+after_reports other over = Some other
 
 -- beats, all of whose reports were written
 pub record Beating

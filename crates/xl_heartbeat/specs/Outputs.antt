@@ -5,7 +5,7 @@ use Rattle.std.specs.Io.KnownBytes.{append_known}
 use Rattle.xl_base.specs.Faults.{Rose}
 use Rattle.xl_io.specs.Sinks.{GrewByLess}
 use Rattle.xl_heartbeat.specs.declared.ends.Ending.{Ending}
-use Rattle.xl_heartbeat.specs.declared.ends.Ending.TheVariants.{Done, WriteFault, OutOfMemory, StoreFull}
+use Rattle.xl_heartbeat.specs.declared.ends.Ending.TheVariants.{WriteFault}
 
 -- the bytes that it holds, if it tells them, and how often a write has failed, up to the greatest `u64`
 pub record Output : Type 0 where
@@ -27,7 +27,5 @@ pub record AddsLess (text : List ℕ) (old new : Output) : Type 0 where
 
 -- all was written, unless a write's fault is the end
 abbrev pub IsWritten : Ending → List ℕ → Output → Output → Type 0
-IsWritten Done text old new = Adds text old new
 IsWritten WriteFault text old new = AddsLess text old new
-IsWritten OutOfMemory text old new = Adds text old new
-IsWritten (StoreFull n) text old new = Adds text old new
+IsWritten other text old new = Adds text old new

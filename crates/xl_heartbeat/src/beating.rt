@@ -1,4 +1,3 @@
-ghost use Rattle.std.specs.Prelude.{◌≡◌};
 ghost use Rattle.std.specs.declared.option.Option.{Option};
 ghost use Rattle.xl_turns.specs.declared.view.Knowledge.{Knowledge};
 ghost use Rattle.xl_turns.specs.Passes.{known};

@@ -33,8 +33,8 @@ use Rattle.xl_heartbeat.specs.declared.ends.Ending.TheVariants as ending
 use Rattle.xl_heartbeat.specs.declared.ends.Stopping.{Stopping}
 use Rattle.xl_heartbeat.specs.declared.ends.Stopping.TheVariants as stopping
 use Rattle.xl_heartbeat.specs.Outputs.{Output}
-use Rattle.xl_heartbeat.specs.Beats.{Phase, Heartbeat, IsStop, IsFull, stop_calls}
-use Rattle.xl_heartbeat.specs.Beats as beats
+use Rattle.xl_heartbeat.specs.Beats.{Heartbeat, IsStop, IsFull, stop_calls}
+use Rattle.xl_heartbeat.proofs.Pulses.{reason_later}
 use Rattle.xl_workers.specs.declared.worker.Worker.{Worker}
 use Rattle.xl_workers.specs.Pairing.{Paired, total}
 use Rattle.xl_workers.specs.declared.porter.Porter.{Porter}
@@ -59,14 +59,6 @@ stands start old new calls history made none seen =
     })
 
 -- what is said of the drawn tickets holds of the entries of a history that has as many
-pub reason_longer : (turns : ℕ) (calls : List Call) (phase : Phase) (drawn n : ℕ) (end : Ending) → drawn ≤ n → n ≤ turns
-    → beats.IsReason turns calls phase drawn end → beats.IsReason turns calls phase n end
-reason_longer turns calls phase drawn n ending.Done le most r = r
-reason_longer turns calls phase drawn n ending.WriteFault le most r = r
-reason_longer turns calls phase drawn n ending.OutOfMemory le most r = r
-reason_longer turns calls phase drawn n (ending.StoreFull k) le most r =
-    let e = r.2 in (r.0, r.1, omega (arith, le, most, e))
-
 pub stop_longer : (turns drawn n : ℕ) (stop : Stopping) → drawn ≤ n → n ≤ turns → IsStop turns drawn stop
     → IsStop turns n stop
 stop_longer turns drawn n stopping.Done le most r = r
@@ -74,10 +66,8 @@ stop_longer turns drawn n (stopping.StoreFull k) le most r = let e = r.1 in (r.0
 
 pub full_longer : (turns drawn n : ℕ) (end : Ending) → drawn ≤ n → n ≤ turns → IsFull turns drawn end
     → IsFull turns n end
-full_longer turns drawn n ending.Done le most r = r
-full_longer turns drawn n ending.WriteFault le most r = r
-full_longer turns drawn n ending.OutOfMemory le most r = r
 full_longer turns drawn n (ending.StoreFull k) le most r = let e = r.1 in (r.0, omega (arith, le, most, e))
+full_longer turns drawn n other le most r = r
 
 filled : (turns : ℕ) (deeds : List Deed) (k : Knowledge Entry) (why : Served) (history : List Entry)
     → k.drawn ≤ length history → length history ≤ turns → IsReason turns deeds k why → IsFilled turns history why
@@ -252,8 +242,8 @@ module _ {B K L D : Type 0} (store : Store B K) (may : ℕ → Bool) (shows : L 
             stand = stands (start_of store) (known heart) (known beaten) (j.beating.calls ++ stop_calls end.stop)
                 history j.beating.made j.all.idle
                 (prefix_trans (known beaten).seen (known pass).seen history beat_in_pass close.begins);
-            reason = reason_longer (turns_of store) j.beating.calls j.beating.phase (known beaten).drawn
-                (length history) end.run le'' close.limit j.beating.reason;
+            reason = reason_later (turns_of store) j.beating.calls j.beating.phase (known beaten).drawn (length history)
+                end.run (λ e. let most = close.limit in omega (arith, le'', most, e)) j.beating.reason;
             stopped = stop_longer (turns_of store) (known beaten).drawn (length history) end.stop le'' close.limit
                 j.beating.stopped;
           }

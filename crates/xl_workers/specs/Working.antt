@@ -66,10 +66,8 @@ pub record Worked (s : Setting) (pulse : Pulse) (door : Option (List ℕ)) (memb
 
 -- if a write's fault had ended the heartbeat nothing more was written
 abbrev pub IsWrittenAfter : Ending → Ending → List ℕ → Output → Output → Type 0
-IsWrittenAfter ending.Done end text old new = IsWritten end text old new
 IsWrittenAfter ending.WriteFault end text old new = new ≡ old
-IsWrittenAfter ending.OutOfMemory end text old new = IsWritten end text old new
-IsWrittenAfter (ending.StoreFull n) end text old new = IsWritten end text old new
+IsWrittenAfter other end text old new = IsWritten end text old new
 
 -- a pass took the last reports after a heartbeat that ended so
 pub record TookLast (start : Core) (turns : ℕ) (beats : Ending)
