@@ -30,7 +30,7 @@ use Rattle.xl_heartbeat.specs.declared.pulse.Pulse.{Pulse}
 use Rattle.xl_heartbeat.specs.declared.standing.Standing.{Standing}
 use Rattle.xl_heartbeat.specs.declared.timing.Timing.{Timing}
 use Rattle.xl_heartbeat.specs.Outputs.{Output}
-use Rattle.xl_heartbeat.specs.Beats.{timer, reports, stop, stop_calls, taking_calls, is_over, after_beat, IsBeating}
+use Rattle.xl_heartbeat.specs.Beats.{timer, reports, stop, stop_calls, taking_calls, is_over, IsBeating}
 use Rattle.xl_heartbeat.specs.Beats as beats
 use Rattle.xl_heartbeat.specs.Looks.{IsLed}
 use Rattle.xl_heartbeat.proofs.Leading.{led_on}
@@ -188,12 +188,11 @@ module _ (may_give : ℕ → Bool) (pulse : Pulse) where
   timed : (cs : List Call) (phase : beats.Phase) (now : ℕ) (set : Standing) → IsBeating may_give pulse cs phase
       → phase ≡ beats.Takes now set
       → (earlier : List Call) × (beat : TimerAnswer) × (cs ≡ earlier ++ timer now beat ∷ [])
-  timed cs phase now set IsBeating.begins e = absurd cc
-  timed cs phase now set (IsBeating.relists earlier asked n before looked look next run may looks relists) e = absurd cc
   timed cs phase now set (IsBeating.beats earlier n before beat run) e =
       let same : n ≡ now = cc in (earlier, beat, ap (λ (m : ℕ). earlier ++ timer m beat ∷ []) same)
   timed cs phase now set (IsBeating.takes earlier n before handed run) e =
       absurd (untaken pulse.timing (is_over pulse.timing n) before set now e)
+  timed cs phase now set other e = absurd cc
 
   -- the last beat, at whose moment the time was over
   pub record IsOverAt (cs : List Call) : Type 0 where
@@ -209,9 +208,6 @@ module _ (may_give : ℕ → Bool) (pulse : Pulse) where
   over_by false set e = absurd cc
 
   pub over_at : (cs : List Call) (phase : beats.Phase) → IsBeating may_give pulse cs phase → phase ≡ beats.Over → IsOverAt cs
-  over_at cs phase IsBeating.begins e = absurd cc
-  over_at cs phase (IsBeating.relists earlier asked n before looked look next run may looks relists) e = absurd cc
-  over_at cs phase (IsBeating.beats earlier n before beat run) e = absurd cc
   over_at cs phase (IsBeating.takes earlier n before handed run) e =
       let t = timed earlier (beats.Takes n before) n before run refl in
       record {
@@ -223,6 +219,7 @@ module _ (may_give : ℕ → Bool) (pulse : Pulse) where
             ∙ append_assoc t.0 (timer n t.1 ∷ []) (reports handed ∷ []);
         over = over_by (is_over pulse.timing n) before e;
       }
+  over_at cs phase other e = absurd cc
 
 -- WHOLE BEATS
 

@@ -1,5 +1,5 @@
 -- What a command leaves whose journal is written behind its run, and one whose journal isn't.
-use Rattle.std.proofs.Common.{◌≡◌, ◌≢◌, ℕ, ◌≤◌, Bool, true, false, List, length, Option, Some, None, Result, Ok, Err, IfSome, IfOk, MatchResult, refl, sym, ap, ◌∙◌, subst, arith, inl, inr}
+use Rattle.std.proofs.Common.{◌≡◌, ◌≢◌, ℕ, ◌≤◌, Bool, true, false, List, length, Option, Some, None, IfSome, refl, sym, ap, ◌∙◌, subst, arith, inl, inr}
 use Rattle.std.specs.Prelude.{◌⊎◌, IsSome, is_some}
 use Rattle.xl_base.specs.Faults.{Rose}
 use Rattle.xl_base.specs.declared.status.Status.{Status}
@@ -28,19 +28,17 @@ over_of : (asked : Bool) (ended : Status) → is_written asked ended ≡ true �
 over_of true ended is = is
 over_of false ended is = absurd cc
 
+over_known : (end : Status) → is_over end ≡ true → IsOfNode end
+over_known status.Done over = tt
+over_known status.StoreFull over = tt
+over_known other over = absurd cc
+
 -- the status of what is written
 module _ (text : List ℕ) (ended : Status) (over : is_over ended ≡ true) where
   pub written_known : (end : Status) (old new : Output) → IsWritten text ended end old new → IsOfNode end
   written_known status.WriteFault old new is = tt
   written_known status.OutOfMemory old new is = tt
-  written_known status.Done old new is = tt
-  written_known status.StoreFull old new is = tt
-  written_known status.KeepFault old new is = tt
-  written_known status.NetFault old new is = tt
-  written_known status.Fork old new is = absurd (let no : is_over status.Fork ≡ true = ap is_over is.0 ∙ over in cc)
-  written_known status.WordsRefused old new is = absurd (let no : is_over status.WordsRefused ≡ true = ap is_over is.0 ∙ over in cc)
-  written_known status.InputRefused old new is = absurd (let no : is_over status.InputRefused ≡ true = ap is_over is.0 ∙ over in cc)
-  written_known status.ReadFault old new is = absurd (let no : is_over status.ReadFault ≡ true = ap is_over is.0 ∙ over in cc)
+  written_known other old new is = over_known other (ap is_over is.0 ∙ over)
 
   pub written_keeper : (end : Status) (old new : Output) → IsWritten text ended end old new → end ≢ status.KeepFault
   written_keeper end old new is same =

@@ -35,52 +35,26 @@ IsOfRun other = ⊥
 -- whatever its parts met
 of_parts : (run : Ending) (stop : Stopping) (last : Ending) → IsOfRun (first_of (causes_of run stop last))
 of_parts run stop ending.WriteFault = tt
-of_parts ending.WriteFault stop ending.Done = tt
-of_parts ending.WriteFault stop ending.OutOfMemory = tt
-of_parts ending.WriteFault stop (ending.StoreFull k) = tt
-of_parts ending.OutOfMemory stop ending.Done = tt
-of_parts ending.OutOfMemory stop ending.OutOfMemory = tt
-of_parts ending.OutOfMemory stop (ending.StoreFull k) = tt
-of_parts (ending.StoreFull n) stop ending.Done = tt
-of_parts (ending.StoreFull n) stop ending.OutOfMemory = tt
-of_parts (ending.StoreFull n) stop (ending.StoreFull k) = tt
-of_parts ending.Done (stopping.StoreFull n) ending.Done = tt
-of_parts ending.Done (stopping.StoreFull n) ending.OutOfMemory = tt
-of_parts ending.Done (stopping.StoreFull n) (ending.StoreFull k) = tt
-of_parts ending.Done stopping.Done ending.Done = tt
-of_parts ending.Done stopping.Done ending.OutOfMemory = tt
-of_parts ending.Done stopping.Done (ending.StoreFull k) = tt
+of_parts ending.Done (stopping.StoreFull n) last = tt
+of_parts run stop last = tt
 
 of_run : (beats : BeatEnd) (last : Ending) → IsOfRun (status_of_run beats last)
 of_run beats last = of_parts beats.run beats.stop last
 
 of_node : (s : Status) → IsOfRun s → IsOfNode s
-of_node status.Done is = tt
-of_node status.WriteFault is = tt
-of_node status.OutOfMemory is = tt
-of_node status.StoreFull is = tt
 of_node status.Fork is = is
 of_node status.WordsRefused is = is
 of_node status.InputRefused is = is
 of_node status.ReadFault is = is
-of_node status.KeepFault is = tt
-of_node status.NetFault is = tt
+of_node other is = tt
 
 pub known_end : (e : RunEnd) → IsOfNode (status_of_end e)
 known_end (end.Ran beats last) = of_node (status_of_run beats last) (of_run beats last)
-known_end (end.LinkFault member) = tt
-known_end end.DoorFault = tt
-known_end end.OutOfMemory = tt
-known_end end.TooFewThreads = tt
-known_end (end.StoreFull n) = tt
+known_end other = tt
 
 pub keeps_no_fault : (e : RunEnd) → status_of_end e ≢ status.KeepFault
 keeps_no_fault (end.Ran beats last) = λ is. subst IsOfRun is (of_run beats last)
-keeps_no_fault (end.LinkFault member) = λ is. cc
-keeps_no_fault end.DoorFault = λ is. cc
-keeps_no_fault end.OutOfMemory = λ is. cc
-keeps_no_fault end.TooFewThreads = λ is. cc
-keeps_no_fault (end.StoreFull n) = λ is. cc
+keeps_no_fault other = λ is. cc
 
 written : (text : List ℕ) (old new : Output) (s : Status) → s ≡ status.WriteFault → IsOutput s text old new
     → Rose old.faults new.faults
@@ -90,11 +64,7 @@ write_by : (s : Setting) (d : Doing) (history : List Entry) (done : List TxId) (
     → EndsBy s d history done submits e → status_of_end e ≡ status.WriteFault → Rose d.old_output.faults d.new_output.faults
 write_by s d history done submits (end.Ran beats last) by is =
     written _ d.old_output d.new_output (status_of_run beats last) is by.1.written
-write_by s d history done submits (end.LinkFault member) by is = absurd cc
-write_by s d history done submits end.DoorFault by is = absurd cc
-write_by s d history done submits end.OutOfMemory by is = absurd cc
-write_by s d history done submits end.TooFewThreads by is = absurd cc
-write_by s d history done submits (end.StoreFull n) by is = absurd cc
+write_by s d history done submits other by is = absurd cc
 
 pub write_cause : (s : Setting) (d : Doing) (e : RunEnd) (history : List Entry) → NodeRun s d e history
     → status_of_end e ≡ status.WriteFault → Rose d.old_output.faults d.new_output.faults
@@ -109,9 +79,7 @@ net_by : (s : Setting) (d : Doing) (history : List Entry) (done : List TxId) (su
 net_by s d history done submits (end.Ran beats last) by is = absurd (never_net beats last is)
 net_by s d history done submits (end.LinkFault member) by is = by.2
 net_by s d history done submits end.DoorFault by is = by.2
-net_by s d history done submits end.OutOfMemory by is = absurd cc
-net_by s d history done submits end.TooFewThreads by is = absurd cc
-net_by s d history done submits (end.StoreFull n) by is = absurd cc
+net_by s d history done submits other by is = absurd cc
 
 pub net_cause : (s : Setting) (d : Doing) (e : RunEnd) (history : List Entry) → NodeRun s d e history
     → status_of_end e ≡ status.NetFault → Rose d.old_hub.faults d.new_hub.faults
@@ -126,34 +94,22 @@ unmade_cause s d (end.LinkFault member) targets door asked is =
 unmade_cause s d end.DoorFault targets door asked is =
     subst (λ (all : List Target). AsksUpToDoor d.old_hub all s.submit_at d.new_hub) targets
     (subst (λ (address : Option (List ℕ)). AsksUpToDoor d.old_hub d.targets address d.new_hub) door asked)
-unmade_cause s d end.OutOfMemory targets door asked is = absurd cc
-unmade_cause s d end.TooFewThreads targets door asked is = absurd cc
-unmade_cause s d (end.StoreFull n) targets door asked is = absurd cc
+unmade_cause s d other targets door asked is = absurd cc
 
 -- a run that is over wrote all, or nothing
 all_written : (text : List ℕ) (old new : Output) (s : Status) → is_over s ≡ true → IsOutput s text old new
     → old.faults ≤ new.faults
 all_written text old new status.Done over out = out.later
 all_written text old new status.StoreFull over out = out.later
-all_written text old new status.Fork over out = absurd cc
-all_written text old new status.WordsRefused over out = absurd cc
-all_written text old new status.InputRefused over out = absurd cc
-all_written text old new status.ReadFault over out = absurd cc
-all_written text old new status.WriteFault over out = absurd cc
-all_written text old new status.OutOfMemory over out = absurd cc
-all_written text old new status.KeepFault over out = absurd cc
-all_written text old new status.NetFault over out = absurd cc
+all_written text old new other over out = absurd cc
 
 later_by : (s : Setting) (d : Doing) (history : List Entry) (done : List TxId) (submits : List ℕ) (e : RunEnd)
     → EndsBy s d history done submits e → is_over (status_of_end e) ≡ true → d.old_output.faults ≤ d.new_output.faults
 later_by s d history done submits (end.Ran beats last) by over =
     all_written _ d.old_output d.new_output (status_of_run beats last) over by.1.written
-later_by s d history done submits (end.LinkFault member) by over = absurd cc
-later_by s d history done submits end.DoorFault by over = absurd cc
-later_by s d history done submits end.OutOfMemory by over = absurd cc
-later_by s d history done submits end.TooFewThreads by over = absurd cc
 later_by s d history done submits (end.StoreFull n) by over =
     let same : d.new_output.faults ≡ d.old_output.faults = ap (λ (o : Output). o.faults) by.1.silent in omega (arith, same)
+later_by s d history done submits other by over = absurd cc
 
 pub later_cause : (s : Setting) (d : Doing) (e : RunEnd) (history : List Entry) → NodeRun s d e history
     → is_over (status_of_end e) ≡ true → d.old_output.faults ≤ d.new_output.faults

@@ -42,16 +42,9 @@ use Rattle.xl_validator.proofs.Beating.{IsOther, over_at, last_timer, beats_of, 
 -- STATUSES
 
 pub node_known : (end : Status) → IsOfNode end → IsKnown end
-node_known status.Done is = tt
-node_known status.WriteFault is = tt
-node_known status.OutOfMemory is = tt
-node_known status.KeepFault is = tt
-node_known status.NetFault is = tt
-node_known status.StoreFull is = tt
-node_known status.InputRefused is = tt
-node_known status.ReadFault is = tt
 node_known status.Fork is = is
 node_known status.WordsRefused is = is
+node_known other is = tt
 
 -- one of those that end refused settings
 abbrev pub IsOfRefusal : Status → Type 0
@@ -67,14 +60,7 @@ of_refusal end told same (inr is) = subst IsOfRefusal (sym (same ∙ is)) tt
 pub refusal_known : (end : Status) → IsOfRefusal end → IsKnown end
 refusal_known status.InputRefused is = tt
 refusal_known status.WriteFault is = tt
-refusal_known status.Done is = absurd is
-refusal_known status.OutOfMemory is = absurd is
-refusal_known status.KeepFault is = absurd is
-refusal_known status.NetFault is = absurd is
-refusal_known status.StoreFull is = absurd is
-refusal_known status.ReadFault is = absurd is
-refusal_known status.Fork is = is
-refusal_known status.WordsRefused is = is
+refusal_known other is = absurd is
 
 -- OF A RUN
 
@@ -82,18 +68,8 @@ refusal_known status.WordsRefused is = is
 beats_done : (run last : Ending) (stop : Stopping)
     → first_of (causes_of run stop last) ≡ status.Done → run ≡ ending.Done
 beats_done ending.Done last stop is = refl
-beats_done ending.WriteFault ending.Done stop is = absurd cc
-beats_done ending.WriteFault ending.WriteFault stop is = absurd cc
-beats_done ending.WriteFault ending.OutOfMemory stop is = absurd cc
-beats_done ending.WriteFault (ending.StoreFull n) stop is = absurd cc
-beats_done ending.OutOfMemory ending.Done stop is = absurd cc
-beats_done ending.OutOfMemory ending.WriteFault stop is = absurd cc
-beats_done ending.OutOfMemory ending.OutOfMemory stop is = absurd cc
-beats_done ending.OutOfMemory (ending.StoreFull n) stop is = absurd cc
-beats_done (ending.StoreFull m) ending.Done stop is = absurd cc
-beats_done (ending.StoreFull m) ending.WriteFault stop is = absurd cc
-beats_done (ending.StoreFull m) ending.OutOfMemory stop is = absurd cc
-beats_done (ending.StoreFull m) (ending.StoreFull n) stop is = absurd cc
+beats_done run ending.WriteFault stop is = absurd cc
+beats_done run last stop is = absurd cc
 
 -- it is full only if one of its parts is
 full_by : (turns n : ℕ) (calls : List Call) (phase : beats.Phase) (run last : Ending) (stop : Stopping)
@@ -101,18 +77,8 @@ full_by : (turns n : ℕ) (calls : List Call) (phase : beats.Phase) (run last : 
     → first_of (causes_of run stop last) ≡ status.StoreFull → n ≡ turns
 full_by turns n calls phase (ending.StoreFull k) last stop reason stops full is = reason.2
 full_by turns n calls phase ending.Done last (stopping.StoreFull k) reason stops full is = stops.1
-full_by turns n calls phase ending.Done (ending.StoreFull k) stopping.Done reason stops full is = full.1
-full_by turns n calls phase ending.Done ending.Done stopping.Done reason stops full is = absurd cc
-full_by turns n calls phase ending.Done ending.WriteFault stopping.Done reason stops full is = absurd cc
-full_by turns n calls phase ending.Done ending.OutOfMemory stopping.Done reason stops full is = absurd cc
-full_by turns n calls phase ending.WriteFault (ending.StoreFull k) stop reason stops full is = full.1
-full_by turns n calls phase ending.WriteFault ending.Done stop reason stops full is = absurd cc
-full_by turns n calls phase ending.WriteFault ending.WriteFault stop reason stops full is = absurd cc
-full_by turns n calls phase ending.WriteFault ending.OutOfMemory stop reason stops full is = absurd cc
-full_by turns n calls phase ending.OutOfMemory (ending.StoreFull k) stop reason stops full is = full.1
-full_by turns n calls phase ending.OutOfMemory ending.Done stop reason stops full is = absurd cc
-full_by turns n calls phase ending.OutOfMemory ending.WriteFault stop reason stops full is = absurd cc
-full_by turns n calls phase ending.OutOfMemory ending.OutOfMemory stop reason stops full is = absurd cc
+full_by turns n calls phase run (ending.StoreFull k) stop reason stops full is = full.1
+full_by turns n calls phase run last stop reason stops full is = absurd cc
 
 -- the moment at which a run is over
 bounded : (timing : Timing) (now : ℕ) → is_over timing now ≡ true → (0 < timing.run) × (timing.opened + timing.run ≤ now)
@@ -143,11 +109,7 @@ module _ (s : Setting) (d : Doing) (history : List Entry) where
         over = o.over;
         last = last_timer s d.pulse d.door (map member_in d.targets) history done submits ended last d.old_output d.new_output sub out o;
       }
-  timed done submits (ends.LinkFault member) sub by is = absurd cc
-  timed done submits ends.DoorFault sub by is = absurd cc
-  timed done submits ends.OutOfMemory sub by is = absurd cc
-  timed done submits ends.TooFewThreads sub by is = absurd cc
-  timed done submits (ends.StoreFull n) sub by is = absurd cc
+  timed done submits other sub by is = absurd cc
 
   pub run_timed : (e : RunEnd) → NodeRun s d e history → status_of_end e ≡ status.Done → IsTimed
   run_timed e run is = timed run.done run.submits e run.submitting run.by is
@@ -158,11 +120,8 @@ module _ (s : Setting) (d : Doing) (history : List Entry) where
       let out = by.1 in
       full_by s.turns (length history) out.calls out.beating.phase ended.run last ended.stop out.beating.reason
       out.beating.stopped out.ending.full is
-  full done submits (ends.LinkFault member) by is = absurd cc
-  full done submits ends.DoorFault by is = absurd cc
-  full done submits ends.OutOfMemory by is = absurd cc
-  full done submits ends.TooFewThreads by is = absurd cc
   full done submits (ends.StoreFull n) by is = by.3
+  full done submits other by is = absurd cc
 
   pub run_full : (e : RunEnd) → NodeRun s d e history → status_of_end e ≡ status.StoreFull → length H ≡ s.turns
   run_full e run is = length_calls s.start history ∙ full run.done run.submits e run.by is
@@ -181,9 +140,7 @@ module _ (s : Setting) (d : Doing) (history : List Entry) where
   submits_alone done submits (ends.Ran ended last) sub by is = absurd (never_net ended last is)
   submits_alone done submits (ends.LinkFault member) sub by is = of_all done submits sub by
   submits_alone done submits ends.DoorFault sub by is = of_all done submits sub by
-  submits_alone done submits ends.OutOfMemory sub by is = absurd cc
-  submits_alone done submits ends.TooFewThreads sub by is = absurd cc
-  submits_alone done submits (ends.StoreFull n) sub by is = absurd cc
+  submits_alone done submits other sub by is = absurd cc
 
   pub run_submits : (e : RunEnd) → NodeRun s d e history → status_of_end e ≡ status.NetFault
       → Paired (IsSubmit s.may_give) d.ids H
@@ -193,11 +150,7 @@ module _ (s : Setting) (d : Doing) (history : List Entry) where
       → EndsBy s d history done submits e → AreBeats d.pulse.rolls d.pulse.publishing H
   beaten done submits (ends.Ran ended last) sub by =
       beats_of s d.pulse d.door (map member_in d.targets) history done submits ended last d.old_output d.new_output sub by.1
-  beaten done submits (ends.LinkFault member) sub by = no_beats s d.pulse history done submits sub by.1.all
-  beaten done submits ends.DoorFault sub by = no_beats s d.pulse history done submits sub by.1.all
-  beaten done submits ends.OutOfMemory sub by = no_beats s d.pulse history done submits sub by.1.all
-  beaten done submits ends.TooFewThreads sub by = no_beats s d.pulse history done submits sub by.1.all
-  beaten done submits (ends.StoreFull n) sub by = no_beats s d.pulse history done submits sub by.1.all
+  beaten done submits other sub by = no_beats s d.pulse history done submits sub by.1.all
 
   pub run_beaten : (e : RunEnd) → NodeRun s d e history → AreBeats d.pulse.rolls d.pulse.publishing H
   run_beaten e run = beaten run.done run.submits e run.submitting run.by
@@ -256,6 +209,22 @@ module _ {K O : Type 0}
   AreJudged end journal = Judges held_by saves_of faults_of load_gives save_gives input may_give links outside
       old_output new_output old new end journal
 
+  -- a journal that is handed back is of a node that ran
+  of_journal : (Holds : Settings → ℕ → List Call → Type 0) (end : Status) (history : List Entry)
+      (j : AreJudged end (Some history))
+      → Holds j.ran.0 j.moment (calls_of (opening_core j.ran.0 j.moment j.ran.3.kept) history)
+      → HasRunSo Holds input may_give (Some history)
+  of_journal Holds end history j holds = record {
+    settings = j.ran.0;
+    moment = j.moment;
+    kept = j.ran.3.kept;
+    history = history;
+    given = j.given;
+    read = j.ran.1;
+    handed = refl;
+    holds = holds;
+  }
+
   module _ (Holds : Settings → ℕ → List Call → Type 0) (wanted : Status)
       (opens : IsUnopened wanted → ⊥)
       (writes : (text : List ℕ) (ended : Status) (before after : Output) → IsWritten text ended wanted before after
@@ -264,18 +233,7 @@ module _ {K O : Type 0}
       (run : Ran s moment between wanted history)
       → Holds s moment (calls_of (opening_core s moment run.kept) history)) where
     ran_so : (journal : Option (List Entry)) → AreJudged wanted journal → HasRunSo Holds input may_give journal
-    ran_so (Some history) j =
-        let run = j.ran.3 in
-        record {
-          settings = j.ran.0;
-          moment = j.moment;
-          kept = run.kept;
-          history = history;
-          given = j.given;
-          read = j.ran.1;
-          handed = refl;
-          holds = holds j.ran.0 j.moment outside history run;
-        }
+    ran_so (Some history) j = of_journal Holds wanted history j (holds j.ran.0 j.moment outside history j.ran.3)
     ran_so None j = ⊎_elim
         (λ unopened. absurd (opens unopened.0))
         (λ recorded.
@@ -329,20 +287,11 @@ module _ {K O : Type 0}
   -- the heartbeat
   pub has_beats : {end : Status} (journal : Option (List Entry)) → AreJudged end journal
       → IfSome journal (λ _. HasRunSo HasBeats input may_give journal)
-  has_beats None j = tt
-  has_beats (Some history) j =
-      let run = j.ran.3 in
-      record {
-        settings = j.ran.0;
-        moment = j.moment;
-        kept = run.kept;
-        history = history;
-        given = j.given;
-        read = j.ran.1;
-        handed = refl;
-        holds = by_beats held_by saves_of faults_of load_gives save_gives may_give links old new j.ran.0 j.moment outside _
-            history run;
-      }
+  has_beats {end} None j = tt
+  has_beats {end} (Some history) j =
+      of_journal HasBeats end history j
+      (by_beats held_by saves_of faults_of load_gives save_gives may_give links old new j.ran.0 j.moment outside end history
+      j.ran.3)
 
   -- COMPLETENESS
 

@@ -1,5 +1,5 @@
 -- What stands in the file of a journal.
-use Rattle.std.proofs.Common.{◌≡◌, ◌⊎◌, ℕ, Bool, true, false, List, [], length, Option, Some, None, Result, Ok, Err, IfSome, IfOk, OnErr, MatchResult, option_map, refl, sym, ap, ◌∙◌, subst, inl, inr}
+use Rattle.std.proofs.Common.{◌≡◌, ◌⊎◌, ℕ, Bool, true, false, List, Option, Some, None, Result, Ok, Err, IfSome, IfOk, OnErr, MatchResult, option_map, refl, sym, ap, ◌∙◌, subst, inl, inr}
 use Rattle.std.specs.Prelude.{is_some}
 use Rattle.xl_store.specs.declared.entry.Entry.{Entry}
 use Rattle.xl_store.specs.declared.retention.Batch.{Batch}
@@ -15,7 +15,7 @@ use Rattle.xl_settings.specs.declared.settings.Settings.{Settings}
 use Rattle.xl_settings.specs.Settings.{settings_of}
 use Rattle.xl_validator.specs.Following.{Begins, Follows, HasFile, HasNoFile, IsFile, RecordsLeft, Writes, opened_by, retention_by}
 use Rattle.xl_validator.proofs.Refusing.{some_any, some_map}
-use Rattle.xl_validator.proofs.Told.{at_any, at_err, at_ok}
+use Rattle.xl_validator.proofs.Told.{at_any, at_ok}
 
 -- WITHOUT A FILE
 

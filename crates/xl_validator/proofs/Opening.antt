@@ -2,7 +2,7 @@
 use Rattle.std.proofs.Common.{◌≡◌, ◌≢◌, ◌<◌, ◌≤◌, ℕ, zero, suc, List, [], ◌∷◌, length, map, refl, sym, ap, ◌∙◌, subst, arith, true, false, ⊎_elim}
 use Rattle.std.specs.Prelude.{nat_eq, ◌^◌, ◌==◌, ◌||◌, IsSome, slice_index_or}
 use Rattle.std.specs.declared.option.Option.{Option}
-use Rattle.std.specs.List.{All, AllByRecursion, IsDistinct, list_all, list_any}
+use Rattle.std.specs.List.{All, AllByRecursion, IsDistinct, list_all}
 use Rattle.std.proofs.lemmas.Bool.{or_cases}
 use Rattle.std.proofs.lemmas.List.{length-map}
 use Rattle.xl_lists.specs.Lists.{TrustedList}

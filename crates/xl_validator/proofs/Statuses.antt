@@ -11,11 +11,9 @@ use Rattle.xl_validator.specs.Validators.{IsKnown}
 
 -- a run that memory ended, or the keeper, ends so whatever its recorder met
 pub keeps_memory : (w : Option RecordEnd) → status_with w status.OutOfMemory ≡ status.OutOfMemory
-keeps_memory None = refl
 keeps_memory (Some why.Write) = refl
 keeps_memory (Some why.Memory) = refl
-keeps_memory (Some why.Full) = refl
-keeps_memory (Some why.Apart) = refl
+keeps_memory other = refl
 
 one_or : (b : Bool) (fault ended end : Status) → end ≡ cond b fault ended → end ≢ fault → ended ≡ end
 one_or true fault ended end is other = absurd (other is)
@@ -24,11 +22,9 @@ one_or false fault ended end is other = sym is
 -- another status than the two of a recorder is the run's
 pub of_run : (w : Option RecordEnd) (ended end : Status) → end ≡ status_with w ended → end ≢ status.WriteFault
     → end ≢ status.OutOfMemory → ended ≡ end
-of_run None ended end is no_write no_memory = sym is
 of_run (Some why.Write) ended end is no_write no_memory = one_or (gives_way ended) status.WriteFault ended end is no_write
 of_run (Some why.Memory) ended end is no_write no_memory = one_or (gives_way ended) status.OutOfMemory ended end is no_memory
-of_run (Some why.Full) ended end is no_write no_memory = sym is
-of_run (Some why.Apart) ended end is no_write no_memory = sym is
+of_run other ended end is no_write no_memory = sym is
 
 -- at a status of its own
 pub run_is : (w : Option RecordEnd) (ended end one : Status) → end ≡ status_with w ended → one ≢ status.WriteFault
@@ -44,11 +40,9 @@ write_or false ended end is same = sym is ∙ same
 -- a write that failed is the run's or the recorder's
 pub write_is : (w : Option RecordEnd) (ended end : Status) → end ≡ status_with w ended → end ≡ status.WriteFault
     → (ended ≡ status.WriteFault) ⊎ (w ≡ Some why.Write)
-write_is None ended end is same = inl (sym is ∙ same)
 write_is (Some why.Write) ended end is same = inr refl
 write_is (Some why.Memory) ended end is same = inl (write_or (gives_way ended) ended end is same)
-write_is (Some why.Full) ended end is same = inl (sym is ∙ same)
-write_is (Some why.Apart) ended end is same = inl (sym is ∙ same)
+write_is other ended end is same = inl (sym is ∙ same)
 
 known_or : (b : Bool) (fault ended : Status) → IsKnown fault → IsKnown ended → IsKnown (cond b fault ended)
 known_or true fault ended one other = one
@@ -58,11 +52,9 @@ pub known_with : (w : Option RecordEnd) (ended end : Status) → end ≡ status_
 known_with w ended end is known = subst IsKnown (sym is) (go w)
   where
     go : (w : Option RecordEnd) → IsKnown (status_with w ended)
-    go None = known
     go (Some why.Write) = known_or (gives_way ended) status.WriteFault ended tt known
     go (Some why.Memory) = known_or (gives_way ended) status.OutOfMemory ended tt known
-    go (Some why.Full) = known
-    go (Some why.Apart) = known
+    go other = known
 
 module _ (input : Option (List ℕ)) (may_give : ℕ → Bool) where
   complete_or : (b : Bool) (ended end : Status) → end ≡ cond b status.OutOfMemory ended → (moment : ℕ)
@@ -77,14 +69,10 @@ module _ (input : Option (List ℕ)) (may_give : ℕ → Bool) where
   pub complete_with : (w : Option RecordEnd) (ended end : Status) → end ≡ status_with w ended → (w ≡ Some why.Write → ⊥)
       → (moment : ℕ) → may_give moment ≡ true → (ended ≢ status.StoreFull → CompletesAt input may_give ended)
       → end ≢ status.StoreFull → CompletesAt input may_give end
-  complete_with None ended end is no_write moment given complete full =
-      subst (CompletesAt input may_give) (sym is) (complete (λ so. full (is ∙ so)))
   complete_with (Some why.Write) ended end is no_write moment given complete full = absurd (no_write refl)
   complete_with (Some why.Memory) ended end is no_write moment given complete full =
       complete_or (gives_way ended) ended end is moment given complete full
-  complete_with (Some why.Full) ended end is no_write moment given complete full =
-      subst (CompletesAt input may_give) (sym is) (complete (λ so. full (is ∙ so)))
-  complete_with (Some why.Apart) ended end is no_write moment given complete full =
+  complete_with other ended end is no_write moment given complete full =
       subst (CompletesAt input may_give) (sym is) (complete (λ so. full (is ∙ so)))
 
 -- without a recorder the status is the run's

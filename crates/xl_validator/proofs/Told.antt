@@ -154,25 +154,7 @@ none_named (Some p) is some = cc
 pub is_named : (s : Settings) (name : KeyName) → IsNamed s name → s.status ≡ None → s.journal_file ≡ None → ⊥
 is_named s key.Status named unnamed no_file = none_named s.status unnamed named
 is_named s key.JournalFile named unnamed no_file = none_named s.journal_file no_file named
-is_named s key.Me named unnamed no_file = named
-is_named s key.List named unnamed no_file = named
-is_named s key.Quorum named unnamed no_file = named
-is_named s key.Validating named unnamed no_file = named
-is_named s key.Limit named unnamed no_file = named
-is_named s key.Turns named unnamed no_file = named
-is_named s key.HeartbeatMs named unnamed no_file = named
-is_named s key.RunMs named unnamed no_file = named
-is_named s key.Submit named unnamed no_file = named
-is_named s key.Peer named unnamed no_file = named
-is_named s key.Speak named unnamed no_file = named
-is_named s key.Publisher named unnamed no_file = named
-is_named s key.Threshold named unnamed no_file = named
-is_named s key.Roll named unnamed no_file = named
-is_named s key.Journal named unnamed no_file = named
-is_named s key.JournalKeys named unnamed no_file = named
-is_named s key.JournalBytes named unnamed no_file = named
-is_named s key.Rolls named unnamed no_file = named
-is_named s key.SubmitAt named unnamed no_file = named
+is_named s other named unnamed no_file = named
 
 pub is_either : (s : Settings) → IsSome s.status ⊎ IsSome s.journal_file → s.status ≡ None → s.journal_file ≡ None → ⊥
 is_either s (inl named) unnamed no_file = none_named s.status unnamed named

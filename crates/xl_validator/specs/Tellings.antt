@@ -62,10 +62,7 @@ module _ {D : Type 0} (stands_on : D → Option (Option (List ℕ))) (stands_at 
 abbrev pub unmade_of : RunEnd → Option Unmade
 unmade_of (end.LinkFault member) = Some (Link member)
 unmade_of end.DoorFault = Some Door
-unmade_of (end.Ran beats last) = None
-unmade_of end.OutOfMemory = None
-unmade_of end.TooFewThreads = None
-unmade_of (end.StoreFull n) = None
+unmade_of other = None
 
 -- What the hub couldn't make is what it was asked for last, of the links and the door that the settings ask for: the link to
 -- this member, behind the ones before it and no door; or the door, behind all links

@@ -1,5 +1,5 @@
 // The members that rolls may name.
-ghost use Rattle.std.specs.Prelude.{◌≡◌, ◌≤◌, ◌==◌, ◌||◌, IfSome, option_map};
+ghost use Rattle.std.specs.Prelude.{◌≡◌, ◌≤◌, ◌==◌, ◌||◌};
 ghost use Rattle.xl_base.specs.Members.{greatest_node_no};
 ghost use Rattle.xl_settings.specs.Peers.{is_peer};
 ghost use Rattle.xl_validator.specs.Openings.{nameable};

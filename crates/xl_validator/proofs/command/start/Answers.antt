@@ -1,12 +1,11 @@
 -- the core opens at the number that the keeper gave, and its run's history is legal, so it can be written as it was
-use Rattle.std.proofs.Common.{◌≡◌, Bool, true, false, None, refl, ap, sym, subst, inl, inr, ◌∙◌, length}
+use Rattle.std.proofs.Common.{◌≡◌, Bool, true, None, refl, ap, sym, inl, inr, ◌∙◌, length}
 use Rattle.std.specs.Prelude.{is_some}
 use Rattle.std.proofs.lemmas.Result.{on_err_weaker}
 use Rattle.xl_heartbeat.specs.declared.outlets.Outlets.{Outlets}
 use Rattle.xl_heartbeat.specs.Outputs.{Output, output}
 use Rattle.xl_recorder.specs.declared.file_recorder.FileRecorder.{FileRecorder}
 use Rattle.xl_audit.specs.Rereading.{SaysYes}
-use Rattle.xl_base.specs.declared.status.Status.{Status}
 use Rattle.xl_base.specs.declared.status.Status.TheVariants as status
 use Rattle.xl_workers.specs.Linking.{hub_seen}
 use Rattle.xl_workers.specs.Runs.{doing_of, status_of_end}
