@@ -75,10 +75,10 @@ start_current shared (d ∷ ds) i p h =
 came_current : (w : World) → IsRun w → HoldCurrent w
 came_current w is = subst HoldCurrent (sym is.5) (run_current (start is.0 w.liars is.1) is.2 (start_current is.0 is.1))
 
-none_some : {X : Type 0} (x : X) → None ≡ Some x → ⊥
+pub none_some : {X : Type 0} (x : X) → None ≡ Some x → ⊥
 none_some x e = cc
 
-same_core : (x y : Core) → Some x ≡ Some y → x ≡ y
+pub same_core : (x y : Core) → Some x ≡ Some y → x ≡ y
 same_core x y e = cc
 
 pub core_is_current : (w : World) → IsRun w → (i : ℕ) (core : Core) → core_in w i ≡ Some core → AreCurrent core.node

@@ -80,11 +80,18 @@ one_left at place end lt =
     let one : end - place ≡ suc (end - (place + 1)) = omega (arith, lt) in
     ap (λ (k : ℕ). map (delivery_at at) (up_from (place + 1) k) ++ drop_at at ∷ []) one
 
-pub none_left : (at place end : ℕ) → end ≤ place → deliveries_left at place end ≡ drop_at at ∷ []
+none_left : (at place end : ℕ) → end ≤ place → deliveries_left at place end ≡ drop_at at ∷ []
 unfolding up_from
 none_left at place end le =
     let none : end - place ≡ 0 = omega (arith, le) in
     ap (λ (k : ℕ). map (delivery_at at) (up_from (place + 1) k) ++ drop_at at ∷ []) none
+
+-- then the mark moves, and all is told
+pub deliveries_done : (r now next : Running) (old text more : List ℕ) (at place end : ℕ) → end ≤ place → Goes r now old text (parts_at (world_of r) at what.All) (deliveries_left at place end) → next ≡ happens now (drop_at at) →
+    more ≡ text ++ part_lines now.reading.names now.reading.lines (world_of now) (drop_at at) → Goes r next old more (parts_at (world_of r) at what.All) []
+deliveries_done r now next old text more at place end past goes is tells =
+    let all : List Event = parts_at (world_of r) at what.All in
+    goes_further r now next old text more all [] (drop_at at) (goes_as r now old text all (deliveries_left at place end) (drop_at at ∷ []) (none_left at place end past) goes) is tells
 
 -- timers
 
@@ -95,5 +102,7 @@ one_timer at numbers i node within is =
     let next : suc i ≡ i + 1 = omega arith in
     ap (map (timer_at at)) (here.2 ∙ (ap (λ (k : ℕ). k ∷ drop (suc i) numbers) its ∙ ap (λ (n : ℕ). node ∷ drop n numbers) next))
 
-pub no_timer : (at : ℕ) (numbers : List ℕ) (i : ℕ) → length numbers ≤ i → map (timer_at at) (drop i numbers) ≡ []
-no_timer at numbers i past = ap (map (timer_at at)) (none_left_of numbers i past)
+pub timers_done : (r now : Running) (old text : List ℕ) (at : ℕ) (numbers : List ℕ) (i : ℕ) → length numbers ≤ i → Goes r now old text (parts_at (world_of r) at what.Timers) (map (timer_at at) (drop i numbers)) →
+    Goes r now old text (parts_at (world_of r) at what.Timers) []
+timers_done r now old text at numbers i past goes =
+    goes_as r now old text (parts_at (world_of r) at what.Timers) (map (timer_at at) (drop i numbers)) [] (ap (map (timer_at at)) (none_left_of numbers i past)) goes

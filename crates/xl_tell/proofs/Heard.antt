@@ -1,5 +1,5 @@
 -- What is told of a node that hears a frame is what it may change.
-use Rattle.std.proofs.Common.{◌≡◌, ℕ, zero, suc, ◌/◌, ◌≤◌, Bool, true, false, List, [], length, arith, refl, ap, sym, ◌∙◌, subst, Option, Some, None, Ok, append-nil}
+use Rattle.std.proofs.Common.{◌≡◌, ℕ, zero, suc, ◌/◌, ◌≤◌, Bool, true, false, List, [], length, arith, refl, ap, sym, ◌∙◌, subst, Option, Some, None, Ok}
 use Rattle.std.specs.Prelude.{max, nat_lt, option_map}
 use Rattle.std.specs.Option.{option_and_then}
 use Rattle.std.proofs.lemmas.Bool.{cond-false, cond_both}
@@ -16,8 +16,8 @@ use Rattle.xl_wire.proofs.BodyLaws.{body_again}
 use Rattle.xl_wire.proofs.Numbers.{IsBytes}
 use Rattle.xl_wire.specs.Heads.{head_refusal, lacking, raw_in, split_of, split_unless}
 use Rattle.xl_wire.specs.Heads.Split.{Whole}
-use Rattle.xl_wire.specs.Raws.{IsRaw, RawFrame, raw_bytes}
-use Rattle.xl_wire.proofs.RawLaws.{split_again, split_spelled}
+use Rattle.xl_wire.specs.Raws.{RawFrame, raw_bytes}
+use Rattle.xl_wire.proofs.RawLaws.{split_spelled}
 use Rattle.xl_tags.specs.Rings.{Ring, schedule_ring}
 use Rattle.xl_tags.specs.Sealing.{as_sealed, sealed}
 use Rattle.xl_tags.proofs.OpeningLaws.{IsRaw-as_sealed}
@@ -69,8 +69,9 @@ use Rattle.xl_tell.specs.declared.before.Before.TheVariants as before
 use Rattle.xl_tell.specs.Before.{Delivers, IsBrief, Says, SaysSet, Tells, TellsOf, asked_of, frame_noted, heard_noted, is_known, number_of, told_at, told_by, told_of}
 use Rattle.xl_tell.specs.Nodes.{changed_at, changed_in, node_of, noted_at}
 use Rattle.xl_tell.specs.Parts.{new_holdings}
-use Rattle.xl_tell.proofs.Currents.{core_is_current}
+use Rattle.xl_tell.proofs.Currents.{core_is_current, none_some, same_core}
 use Rattle.xl_tell.proofs.Knowing.{known_leaves_rest}
+use Rattle.xl_tell.proofs.Sealed.{split_whole}
 
 -- WHO SAYS IT
 
@@ -84,7 +85,7 @@ pub sealed_says : (ring : Ring) (from to : ℕ) (body : Body) → has_spelling f
 sealed_says ring from to body spelled fits =
     let f : RawFrame = sealed ring (raw_of (blank_frame from to body)) in
     let bytes : List ℕ = raw_bytes f in
-    let whole : split_of bytes ≡ Whole f = ap split_of (sym (append-nil bytes)) ∙ split_again f [] (sealed_raw ring from to body spelled) in
+    let whole : split_of bytes ≡ Whole f = split_whole f (sealed_raw ring from to body spelled) in
     let same : body_in f.kind f.body ≡ body = read_so f.kind f.body body (body_again body fits) in
     ap said_in (whole_raw (head_refusal bytes) (lacking bytes) (raw_in bytes) f whole)
     ∙ ap (λ (b : Body). let said : Spoken = record { from = from; what = speech_of b } in said) same
@@ -98,19 +99,15 @@ sealed_says ring from to body spelled fits =
 
 -- the ids of a set
 abbrev pub ids_of : Speech → List TxId
-ids_of (speech.Validation v) = []
-ids_of (speech.Proposal p) = []
-ids_of (speech.Header h) = []
 ids_of (speech.TxSet ids) = ids
-ids_of (speech.Tx tx) = []
+ids_of other = []
 
 -- so is a set that is kept as bytes with any tag
 pub kept_set : (ring : Ring) (bytes : List ℕ) (f : RawFrame) → IsBytes bytes → split_of bytes ≡ Whole f → f.kind ≡ 4 → span f.body ≡ length bytes →
     said_in (raw_in (bytes_as_sealed ring bytes)) ≡ record { from = f.from; what = speech.TxSet (ids_of (speech_of (body_in 4 f.body))) }
 kept_set ring bytes f fits is kind length_is =
     let g : RawFrame = as_sealed ring f in
-    let ok : IsRaw g = IsRaw-as_sealed ring f (split_spelled bytes f fits is).frame in
-    let whole : split_of (raw_bytes g) ≡ Whole g = ap split_of (sym (append-nil (raw_bytes g))) ∙ split_again g [] ok in
+    let whole : split_of (raw_bytes g) ≡ Whole g = split_whole g (IsRaw-as_sealed ring f (split_spelled bytes f fits is).frame) in
     let sent : bytes_as_sealed ring bytes ≡ raw_bytes g =
     ap (sealed_in ring bytes) is ∙ cond-false (nat_lt (span f.body) (length bytes)) bytes (raw_bytes g) (not_less (span f.body) (length bytes) length_is) in
     ap (λ (bs : List ℕ). said_in (raw_in bs)) sent
@@ -132,12 +129,6 @@ says_set frame bytes f is fits split kind from length_is =
     }
 
 -- THE NODE BEHIND IT
-
-none_some : {X : Type 0} (x : X) → None ≡ Some x → ⊥
-none_some x e = cc
-
-same_core : (x y : Core) → Some x ≡ Some y → x ≡ y
-same_core x y e = cc
 
 pub record HasHappened (w : World) (i : ℕ) (e : CoreEvent) (core : Core) : Type 0 where
   pub later : Core
@@ -178,10 +169,7 @@ kind_told names i m n later (speech.Tx tx) leaves valid on rest =
 -- what is noted for a node is told of that node
 of_its_number : (names : List Named) (i : ℕ) (n : Node) (m : ℕ) (what : Speech) (w : World) → told_by names (heard_noted i n m what) w ≡ told_at names (heard_noted i n m what) (core_in w i)
 of_its_number names i n m (speech.Validation v) w = refl
-of_its_number names i n m (speech.Proposal p) w = refl
-of_its_number names i n m (speech.Header h) w = refl
-of_its_number names i n m (speech.TxSet ids) w = refl
-of_its_number names i n m (speech.Tx tx) w = refl
+of_its_number names i n m other w = refl
 
 -- what is told at a number is told of the node of the part
 told_there : (w : World) (e : Event) (i : ℕ) (core : Core) (names : List Named) → node_of w e.what ≡ Some i → core_in w i ≡ Some core →

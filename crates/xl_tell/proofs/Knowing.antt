@@ -25,10 +25,6 @@ not_so e = cc
 
 -- it is refused
 known_speech : (n : Node) (at from : ℕ) (what : Speech) → is_known n what ≡ true → is_some (speech_refusal (at_moment at n) from what) ≡ true
-known_speech n at from (speech.Validation v) known = absurd (not_so known)
-known_speech n at from (speech.Proposal p) known = absurd (not_so known)
-known_speech n at from (speech.TxSet ids) known = absurd (not_so known)
-known_speech n at from (speech.Tx tx) known = absurd (not_so known)
 known_speech n at from (speech.Header h) known =
     let others : List (Option AddRefusal) =
     refused_if (not (is_some (place_of n.ledgers.headers h.parent))) (Orphan h.parent)
@@ -36,6 +32,7 @@ known_speech n at from (speech.Header h) known =
     ∷ refused_if (nat_le n.ledgers.limit (length n.ledgers.headers)) (Full n.ledgers.limit)
     ∷ [] in
     ap (λ (b : Bool). is_some (option_map HeaderRefused (first_of (refused_if b (Known (header_id h)) ∷ others)))) known
+known_speech n at from other known = absurd (not_so known)
 
 or_refused : (o also : Option Refusal) → is_some also ≡ true → is_some (option_or o also) ≡ true
 or_refused None also some = some

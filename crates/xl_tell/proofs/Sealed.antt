@@ -27,20 +27,24 @@ use Rattle.xl_tags.specs.Sealing.{sealed}
 use Rattle.xl_told.specs.Bodies.{body_text}
 use Rattle.xl_tell.specs.Echoes.{parts_text}
 
-body_said : (names : List Named) (f : RawFrame) (tag : List ℕ) (body : Result Body WireRefusal) → said_text names (with_body (with_tag f tag) body) ≡ said_text names (with_body f body)
-body_said names f tag (Ok body) = refl
-body_said names f tag (Err why) = refl
+-- what a frame says, by its parts
+parts_said : (names : List Named) (f : RawFrame) (body : Result Body WireRefusal) → said_text names (with_body f body) ≡ parts_text names body
+parts_said names f (Ok body) = refl
+parts_said names f (Err why) = refl
 
 -- a frame with another tag
 tagged : (names : List Named) (f : RawFrame) (tag : List ℕ) → said_text names (with_bodies (Whole (with_tag f tag))) ≡ said_text names (with_bodies (Whole f))
-tagged names f tag = body_said names f tag (body_of f.kind f.body)
+tagged names f tag = parts_said names (with_tag f tag) (body_of f.kind f.body) ∙ sym (parts_said names f (body_of f.kind f.body))
+
+-- the bytes of a frame are split into its parts
+pub split_whole : (f : RawFrame) → IsRaw f → split_of (raw_bytes f) ≡ Whole f
+split_whole f ok = ap split_of (sym (append-nil (raw_bytes f))) ∙ split_again f [] ok
 
 module _ (names : List Named) (ring : Ring) (bytes : List ℕ) (fits : IsBytes bytes) where
   whole : (f : RawFrame) → split_of bytes ≡ Whole f → said_text names (decoded_of (raw_bytes (as_sealed ring f))) ≡ said_text names (decoded_of bytes)
   whole f is =
       let g : RawFrame = as_sealed ring f in
-      let ok : IsRaw g = IsRaw-as_sealed ring f (split_spelled bytes f fits is).frame in
-      let again : split_of (raw_bytes g) ≡ Whole g = ap split_of (sym (append-nil (raw_bytes g))) ∙ split_again g [] ok in
+      let again : split_of (raw_bytes g) ≡ Whole g = split_whole g (IsRaw-as_sealed ring f (split_spelled bytes f fits is).frame) in
       ap (λ (s : Split). said_text names (with_bodies s)) again
       ∙ (tagged names f g.tag ∙ sym (ap (λ (s : Split). said_text names (with_bodies s)) is))
 
@@ -54,11 +58,6 @@ module _ (names : List Named) (ring : Ring) (bytes : List ℕ) (fits : IsBytes b
   pub said_sealed : said_text names (decoded_of (bytes_as_sealed ring bytes)) ≡ said_text names (decoded_of bytes)
   said_sealed = by_split (split_of bytes) refl
 
--- what a frame says, by its parts
-parts_said : (names : List Named) (f : RawFrame) (body : Result Body WireRefusal) → said_text names (with_body f body) ≡ parts_text names body
-parts_said names f (Ok body) = refl
-parts_said names f (Err why) = refl
-
 pub bytes_said : (names : List Named) (bytes : List ℕ) (f : RawFrame) → split_of bytes ≡ Whole f → said_text names (decoded_of bytes) ≡ parts_text names (body_of f.kind f.body)
 bytes_said names bytes f is = ap (λ (s : Split). said_text names (with_bodies s)) is ∙ parts_said names f (body_of f.kind f.body)
 
@@ -66,6 +65,6 @@ bytes_said names bytes f is = ap (λ (s : Split). said_text names (with_bodies s
 pub said_body : (names : List Named) (ring : Ring) (from to : ℕ) (body : Body) → has_spelling from to body ≡ true → IsBody body → said_text names (decoded_of (sealed_bytes ring from to body)) ≡ body_text names body
 said_body names ring from to body spelled fits =
     let f : RawFrame = sealed ring (raw_of (blank_frame from to body)) in
-    let whole : split_of (raw_bytes f) ≡ Whole f = ap split_of (sym (append-nil (raw_bytes f))) ∙ split_again f [] (sealed_raw ring from to body spelled) in
+    let whole : split_of (raw_bytes f) ≡ Whole f = split_whole f (sealed_raw ring from to body spelled) in
     ap (λ (s : Split). said_text names (with_bodies s)) whole
     ∙ ap (λ (r : Result Body WireRefusal). said_text names (with_body f r)) (body_again body fits)

@@ -42,19 +42,7 @@ whole_world r e = ap (in_world r) (parts_are_the_whole (world_of r) e).world
 part_alone : (w : World) (at : ℕ) (happening : What) → (happening ≡ what.All → ⊥) → (happening ≡ what.Timers → ⊥) → parts_at w at happening ≡ record { at = at; what = happening } ∷ []
 part_alone w at what.All all timers = absurd (all refl)
 part_alone w at what.Timers all timers = absurd (timers refl)
-part_alone w at (what.Ask ask) all timers = refl
-part_alone w at (what.Submit node tx) all timers = refl
-part_alone w at (what.Deliver place) all timers = refl
-part_alone w at what.Drop all timers = refl
-part_alone w at (what.Greet node peer) all timers = refl
-part_alone w at (what.Restart node) all timers = refl
-part_alone w at (what.Cut new ask) all timers = refl
-part_alone w at (what.Fail new ask) all timers = refl
-part_alone w at (what.Lie from to lie) all timers = refl
-part_alone w at (what.Raw to bytes) all timers = refl
-part_alone w at (what.Prefer node) all timers = refl
-part_alone w at (what.List node list) all timers = refl
-part_alone w at (what.Heard node) all timers = refl
+part_alone w at happening all timers = refl
 
 pub alone : (names : List Named) (n : ℕ) (w : World) (e : Event) → (e.what ≡ what.All → ⊥) → (e.what ≡ what.Timers → ⊥) → part_lines names n w e ≡ lines_of_parts names n w (parts_of w e)
 alone names n w e all timers =

@@ -61,24 +61,13 @@ event_leaves r e =
 
 abbrev LeavesStep : Step Running → Step Running → Type 0
 LeavesStep (goes_on text r) (goes_on other s) = Leaves text other × (r ≡ s)
-LeavesStep (goes_on text r) (stops other) = ⊥
-LeavesStep (goes_on text r) (finds other) = ⊥
-LeavesStep (stops text) (goes_on other s) = ⊥
 LeavesStep (stops text) (stops other) = Leaves text other
-LeavesStep (stops text) (finds other) = ⊥
-LeavesStep (finds text) (goes_on other s) = ⊥
-LeavesStep (finds text) (stops other) = ⊥
 LeavesStep (finds text) (finds other) = Leaves text other
+LeavesStep one other = ⊥
 
 line_leaves : (r : Running) (l : Line) → LeavesStep (after_line r l) (replay.after_line r l)
-line_leaves r (line.Limit limit) = (nothing, refl)
-line_leaves r (line.Speak version) = (nothing, refl)
-line_leaves r (line.Node me list validating) = (nothing, refl)
-line_leaves r (line.Liar me) = (nothing, refl)
-line_leaves r (line.Name name id) = (nothing, refl)
-line_leaves r (line.Ledger name parent header) = (nothing, refl)
-line_leaves r (line.At at) = (nothing, refl)
 line_leaves r (line.Event e) = (event_leaves r e, refl)
+line_leaves r other = (nothing, refl)
 
 answer_leaves : (r : Running) (a : LineAnswer) → LeavesStep (after_answer r a) (replay.after_answer r a)
 answer_leaves r (passes reading) = (nothing, refl)
@@ -123,14 +112,9 @@ module _ (a b : Rules Running) (does : DoesLeave a b) where
             closed = (further next).closed;
           } in
           subst (λ (s : Running). LeavesTold (after text (told_from limits a (left - 1) next ls)) (after other (told_from limits b (left - 1) s ls))) leave.1 here
-      by_step further (goes_on text next) (stops other) leave = absurd leave
-      by_step further (goes_on text next) (finds other) leave = absurd leave
-      by_step further (stops text) (goes_on other same) leave = absurd leave
       by_step further (stops text) (stops other) leave = record { text = leave; verdict = refl; closed = refl }
-      by_step further (stops text) (finds other) leave = absurd leave
-      by_step further (finds text) (goes_on other same) leave = absurd leave
-      by_step further (finds text) (stops other) leave = absurd leave
       by_step further (finds text) (finds other) leave = record { text = leave; verdict = refl; closed = refl }
+      by_step further one other leave = absurd leave
 
 -- ALL
 

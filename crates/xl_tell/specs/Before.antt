@@ -75,10 +75,7 @@ heard_noted i n m (speech.Tx tx) = before.Pending i (pending_noted n)
 -- what a member says is a header of a ledger that the node knows
 abbrev pub is_known : Node → Speech → Bool
 is_known n (speech.Header h) = is_some (place_of n.ledgers.headers (header_id h))
-is_known n (speech.Validation v) = false
-is_known n (speech.Proposal p) = false
-is_known n (speech.TxSet ids) = false
-is_known n (speech.Tx tx) = false
+is_known n other = false
 
 -- nothing but the time, if it is that: it refuses it
 abbrev pub frame_noted : ℕ → Node → ℕ → Speech → Before

@@ -13,11 +13,8 @@ use Rattle.xl_world.specs.World.{World, core_in}
 -- the node at which something happens, if it is one
 abbrev pub node_of : World → What → Option ℕ
 node_of w (what.Ask ask) = Some (node_asked ask)
-node_of w what.Timers = None
 node_of w (what.Submit node tx) = Some node
 node_of w (what.Deliver place) = option_map (λ frame. frame.to) (frame_at w.sent place)
-node_of w what.All = None
-node_of w what.Drop = None
 node_of w (what.Greet node peer) = Some node
 node_of w (what.Restart node) = Some node
 node_of w (what.Cut new ask) = Some (node_asked ask)
@@ -27,6 +24,7 @@ node_of w (what.Lie from to lie) = Some to
 node_of w (what.Raw to bytes) = Some to
 node_of w (what.Prefer node) = Some node
 node_of w (what.Heard node) = Some node
+node_of w other = None
 
 -- what it holds; a liar's number has no node
 abbrev pub noted_at : World → Option ℕ → Option Noted

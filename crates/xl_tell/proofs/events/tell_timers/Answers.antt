@@ -1,10 +1,10 @@
 -- timer after timer
-use Rattle.std.proofs.Common.{ℕ, ◌+◌, List, [], ◌∷◌, drop, map, ap, ◌∙◌}
+use Rattle.std.proofs.Common.{ℕ, ◌+◌, List, ◌∷◌, drop, map, ap, ◌∙◌}
 use Rattle.std.specs.String.{string_bytes}
 use Rattle.xl_running.specs.Running.{world_of}
 use Rattle.xl_sched.specs.declared.event.What.TheVariants as what
 use Rattle.xl_world.specs.Parts.{parts_at, timer_at}
-use Rattle.xl_tell.proofs.Going.{goes_as, goes_first, goes_further, is_open, leads_there, no_timer, one_timer, tells_all}
+use Rattle.xl_tell.proofs.Going.{goes_as, goes_first, goes_further, is_open, leads_there, one_timer, tells_all, timers_done}
 use Rattle.xl_tell.proofs.events.tell_timers.Goals as goal
 
 pub loop-node-init : goal.loop-node-init
@@ -37,24 +37,18 @@ loop-node-preserved c =
 
 pub returns-clause-world : goal.returns-clause-world
 returns-clause-world c =
-    let at = c.args.at in
     let r = c.args.running.now in
     let now = c.loop-node.running in
     let old = string_bytes c.args.text.now in
     let text = string_bytes c.loop-node.text in
-    let all = parts_at (world_of r) at what.Timers in
-    let items = c.as_slice-node-items.result.now in
-    let i = c.loop-node.node-index in
-    leads_there r now old text all (goes_as r now old text all (map (timer_at at) (drop i items)) [] (no_timer at items i c.loop-node-test.false) c.loop-node.invariant)
+    leads_there r now old text (parts_at (world_of r) c.args.at what.Timers)
+    (timers_done r now old text c.args.at c.as_slice-node-items.result.now c.loop-node.node-index c.loop-node-test.false c.loop-node.invariant)
 
 pub returns-clause-told : goal.returns-clause-told
 returns-clause-told c =
-    let at = c.args.at in
     let r = c.args.running.now in
     let now = c.loop-node.running in
     let old = string_bytes c.args.text.now in
     let text = string_bytes c.loop-node.text in
-    let all = parts_at (world_of r) at what.Timers in
-    let items = c.as_slice-node-items.result.now in
-    let i = c.loop-node.node-index in
-    tells_all r now old text all (goes_as r now old text all (map (timer_at at) (drop i items)) [] (no_timer at items i c.loop-node-test.false) c.loop-node.invariant)
+    tells_all r now old text (parts_at (world_of r) c.args.at what.Timers)
+    (timers_done r now old text c.args.at c.as_slice-node-items.result.now c.loop-node.node-index c.loop-node-test.false c.loop-node.invariant)
