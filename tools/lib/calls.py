@@ -1,4 +1,4 @@
-"""What single calls take: of the tests of a crate, and of the program test_runs, which are proved and built first."""
+"""What single calls take: of the tests of a crate, and of the program test_in_memory, which are proved and built first."""
 import os
 import subprocess
 
@@ -8,8 +8,6 @@ import counting
 CRATES = os.path.join(os.path.dirname(os.path.dirname(os.path.dirname(os.path.realpath(__file__)))), 'crates')
 MORE = 100000  # by how many calls two runs differ
 THREADS = (0, 1, 2, 3)  # how often the calls are shared out to two threads
-# The program that does what its words say. With a word that it doesn't know it makes no worked run, and ends at once.
-RUNS = ('test_runs', 'run', '--', 'words')
 # Of seven cores, each of which has its timer once a second: the number of a heartbeat, and what it is.
 HEARTBEATS = (
     (1, 'a heartbeat of an open round that stays open'), (57, 'one that closes, with one transaction pending'),
@@ -45,7 +43,7 @@ def of_tags():
 
 def of_heartbeats():
     """Of the first core of seven, from an open round to the ledger that is agreed on."""
-    words = [made(*RUNS), 'seven']
+    words = [made('test_in_memory', 'run'), 'seven']
     counts = counting.calls(words, 'xl_rounds::round::Round::heartbeat', HEARTBEATS[-1][0])
     for number, name in HEARTBEATS:
         yield line(name, counts[number - 1])
@@ -53,7 +51,7 @@ def of_heartbeats():
 
 def of_sets():
     """What `update` does besides, the threshold of the percent, is made part of its caller."""
-    program, update = made(*RUNS), 'xl_disputes::disputes::Disputes::update_above'
+    program, update = made('test_in_memory', 'run'), 'xl_disputes::disputes::Disputes::update_above'
     yield line('opening the disputes', counting.calls([program, 'alike', '1'], 'xl_disputes::disputes::Disputes::open', 1)[0])
     for members in ('1', '7', '64'):
         count = counting.calls([program, 'alike', members], update, 1)[0]
@@ -66,7 +64,7 @@ def of_sets():
 
 def of_votes():
     """The members vote for the last ledgers of a chain, one each, upwards; the last member's vote is counted."""
-    program = made(*RUNS)
+    program = made('test_in_memory', 'run')
     count = lambda *words: counting.instructions([program, *map(str, words)])
     for form in ('plain', 'trie'):
         for members in (7, 64):
@@ -79,7 +77,7 @@ def of_votes():
 
 def of_turns():
     """The core's own call and the entry's memory are counted alone, and taken off."""
-    program = made(*RUNS)
+    program = made('test_in_memory', 'run')
 
     def each(kind, halvings=0):
         few, many = (counting.instructions([program, kind, str(times), str(halvings)]) for times in (MORE, 2 * MORE))

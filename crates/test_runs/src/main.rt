@@ -5,17 +5,14 @@
 //! text in `NAME.out`. The file `refusals` has a schedule a line, ` / ` between its lines, and behind ` -> ` the text
 //! that refuses the last. The file `faults` has such a line as `runs`, with the bytes of a piece in front. Each read
 //! of that run fails once, and each write. The run must then end with the status of that fault and a front of the
-//! text. Then a node runs whose keeper, link, board or file fails, and one that serves two links side by side. What runs in
-//! memory without `top` comes last. With words the program does instead what tools/measure counts.
+//! text. Then a node runs whose keeper, link, board or file fails, and one that serves two links side by side.
 //!
-//! It stands on xl_top. Its one contract: a run is called the same exactly if both the text and the status are. Else the
-//! gate proves that it is safe, and compares what it prints without a word, in both compilers' builds.
+//! It stands on xl_top. Its one contract: a run is called the same exactly if both the text and the status are.
 #![tactic(auto)]
 
 mod beside;
 mod comparison;
 mod faults;
-mod in_memory;
 mod node_ends;
 mod outside;
 mod run;
@@ -23,13 +20,12 @@ mod run;
 use beside::run_beside;
 use comparison::Comparison;
 use faults::run_with_faults;
-use in_memory::{run_in_memory, run_measured};
 use node_ends::run_ends;
 use run::{run_named, run_refused};
 use std::fs::Files;
 use std::sync::Wait;
 use std::thread::Threads;
-use std::{env, fs, io};
+use std::{fs, io};
 
 /// How many runs went as they should, and how many didn't.
 #[derive(Drop)]
@@ -104,27 +100,12 @@ fn fail_all<R: Threads + Wait + Files + Sync>(
     Ok(())
 }
 
-/// The worked runs, one kind after the other.
-fn run_worked<R: Threads + Wait + Files + Sync>(rt: &HostRuntime, threads: &R) -> io::Result<()> {
-    let mut tally = Tally { same: 0, other: 0 };
-    run_all(rt, threads, &mut tally)?;
-    refuse_all(rt, threads, &mut tally)?;
-    fail_all(rt, threads, &mut tally)?;
-    run_ends(rt, threads)?;
-    run_beside(rt, threads)?;
-    println!(rt; "{} same, {} other", tally.same, tally.other)
-}
-
 fn main(rt: HostRuntime) -> io::Result<()> {
-    let mut words: Vec<String> = Vec::new(rt.alloc());
-    for word in env::args(&rt)? {
-        words.push(word)?;
-    }
-    match words.get(1) {
-        Some(kind) => run_measured(&rt, &rt, kind.as_str(), &words),
-        None => {
-            run_worked(&rt, &rt)?;
-            run_in_memory(&rt, &rt)
-        }
-    }
+    let mut tally = Tally { same: 0, other: 0 };
+    run_all(&rt, &rt, &mut tally)?;
+    refuse_all(&rt, &rt, &mut tally)?;
+    fail_all(&rt, &rt, &mut tally)?;
+    run_ends(&rt, &rt)?;
+    run_beside(&rt, &rt)?;
+    println!(rt; "{} same, {} other", tally.same, tally.other)
 }

@@ -1,0 +1,10 @@
+use Rattle.std.proofs.Common.{ap}
+use Rattle.xl_tags.specs.Rings.{Ring, schedule_ring}
+use Rattle.test_in_memory.proofs.turns.core_of.Goals as goal
+
+pub open-requires-clause-keyed : goal.open-requires-clause-keyed
+unfolding schedule_ring
+open-requires-clause-keyed c = record {
+  own = ap (λ (r : Ring). r.me) c.of_schedule.ensures.ring;
+  listed = c.of_schedule.ensures.listed c.in_ok-list.list c.quorum.ensures.valid;
+}

@@ -1,5 +1,0 @@
-use Rattle.xl_store.specs.Stores.{IsOf}
-use Rattle.test_runs.proofs.in_memory.turns.beat.Given as goal
-
-abbrev pub invariant-loop : goal.invariant-loop
-invariant-loop g l = IsOf l.store l.pass

@@ -1,5 +1,0 @@
-use Rattle.std.proofs.Common.{◌<◌, length}
-use Rattle.test_runs.proofs.in_memory.votes.grow.Given as goal
-
-abbrev pub invariant-loop : goal.invariant-loop
-invariant-loop l = l.last < length l.registry.headers
