@@ -7,7 +7,7 @@ use Rattle.xl_queues.specs.Broadcasts.{pushed_to_all}
 use Rattle.xl_queues.specs.Queues.{Backlog}
 use Rattle.xl_rounds.specs.declared.heartbeat.Said.{Said}
 use Rattle.xl_core.specs.declared.timer_answer.TimerAnswer.{TimerAnswer}
-use Rattle.xl_core.specs.declared.timer_answer.TimerAnswer.TheVariants.{Nothing, Closed, Updated, Switched, NoRoom, Built as BuiltBeat}
+use Rattle.xl_core.specs.declared.timer_answer.TimerAnswer.TheVariants.{Built as BuiltBeat}
 use Rattle.xl_core.specs.declared.timer_answer.Issued.TheVariants as issued
 use Rattle.xl_core.specs.declared.item.Item.{Item}
 use Rattle.xl_core.specs.declared.item.Item.TheVariants.{Tx as TxItem}
@@ -49,12 +49,8 @@ quiet_asks held_by saves_of faults_of gives kept keeper m n told said is =
     subst (λ (t : TimerOutcome). IsAsked held_by saves_of faults_of gives (asks_of t) kept keeper keeper) is (unasked held_by saves_of faults_of gives kept keeper)
 
 pub quiet_fault : (told : TimerAnswer) (n : ℕ) → IsQuiet told → CountsBeatFault told n n
-quiet_fault Nothing n quiet = λ seq id moved_on count e. cc
-quiet_fault Closed n quiet = λ seq id moved_on count e. cc
-quiet_fault Updated n quiet = λ seq id moved_on count e. cc
-quiet_fault (Switched s i) n quiet = λ seq id moved_on count e. cc
-quiet_fault (NoRoom limit) n quiet = λ seq id moved_on count e. cc
 quiet_fault (BuiltBeat s i m how) n quiet = absurd quiet
+quiet_fault other n quiet = λ seq id moved_on count e. cc
 
 -- A LEDGER WAS BUILT
 

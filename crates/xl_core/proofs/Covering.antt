@@ -29,7 +29,7 @@ use Rattle.xl_ledger.specs.Headers.{spelling}
 use Rattle.xl_core.specs.Answers.{Done}
 use Rattle.xl_core.proofs.Timing.{timing_by, submit_either, relist_either}
 use Rattle.xl_core.specs.declared.event.CoreEvent.{CoreEvent}
-use Rattle.xl_core.specs.declared.event.CoreEvent.TheVariants.{Issue, Frame, Timer, Submit, Greet, Drain, Reports, Stop, Stopped, Relist}
+use Rattle.xl_core.specs.declared.event.CoreEvent.TheVariants.{Issue, Frame, Timer, Submit, Drain, Relist}
 use Rattle.xl_core.specs.declared.hearing.Spoken.{Spoken}
 use Rattle.xl_core.specs.declared.item.Item.{Item}
 use Rattle.xl_core.specs.declared.item.Item.TheVariants.{Validation as ValidationItem, Tx, TxSet, Proposal, Header as HeaderItem}
@@ -65,11 +65,8 @@ sealed_says ring from to v h = ap validation_split (sealed_split ring from to (b
 
 -- a body that a frame may say
 abbrev IsBodyCovered : ℕ → Body → Type 0
-IsBodyCovered kept (bodies.Proposal p) = ⊤
 IsBodyCovered kept (bodies.Validation v) = v.seq ≤ kept
-IsBodyCovered kept (bodies.Header header) = ⊤
-IsBodyCovered kept (bodies.TxSet ids) = ⊤
-IsBodyCovered kept (bodies.Tx id) = ⊤
+IsBodyCovered kept other = ⊤
 
 -- a frame of another kind says no validation
 no_validation : (o : Option WireRefusal) (bytes : List ℕ) → validation_of (unless_refused o (wire_body 4 bytes)) ≡ None
@@ -218,27 +215,11 @@ step_on held core given (Submit now tx) save life =
       covered = submit_covered held core now tx save life.covered;
       all = submit_either (λ r. All (IsFrameCovered r.node.kept) (given ++ given_in r.answer)) (at_moment now core.node) tx (λ _. none_given core.node.kept given life.all) (none_given core.node.kept given life.all);
     }
-step_on held core given (Greet member) save life = record {
-  own = life.own;
-  covered = record { saved = life.covered.saved; own = life.covered.own; waiting = life.covered.waiting };
-  all = none_given core.node.kept given life.all;
-}
 step_on held core given (Drain member room) save life = record {
   own = life.own;
   covered = drain_covered held core member room life.covered;
   all = more_given core.node.kept core.node.kept given (given_in (core_happens core (Drain member room) save).answer) (omega arith) life.all (drain_gives core.node.kept core member room save life.covered.waiting);
 }
-step_on held core given (Reports room) save life = record {
-  own = life.own;
-  covered = record { saved = life.covered.saved; own = life.covered.own; waiting = life.covered.waiting };
-  all = none_given core.node.kept given life.all;
-}
-step_on held core given Stop save life = record {
-  own = life.own;
-  covered = record { saved = life.covered.saved; own = life.covered.own; waiting = life.covered.waiting };
-  all = none_given core.node.kept given life.all;
-}
-step_on held core given Stopped save life = record { own = life.own; covered = life.covered; all = none_given core.node.kept given life.all }
 step_on held core given (Relist now list) save life =
     let same = stays_itself core.node (nodes.Relist now list) save in
     record {
@@ -246,6 +227,11 @@ step_on held core given (Relist now list) save life =
       covered = relist_covered held core now list save life.covered;
       all = relist_either (λ r. All (IsFrameCovered r.node.kept) (given ++ given_in r.answer)) (at_moment now core.node) list (λ _. none_given core.node.kept given life.all) (λ _. none_given core.node.kept given life.all);
     }
+step_on held core given other save life = record {
+  own = life.own;
+  covered = record { saved = life.covered.saved; own = life.covered.own; waiting = life.covered.waiting };
+  all = none_given core.node.kept given life.all;
+}
 
 lives_on : (held : Held) (core : Core) (given : List (List ℕ)) (life : List CoreHappening) → IsLife held core given → IsLife (held_after held core life) (core_after core life) (given ++ given_over core life)
 lives_on held core given [] is = record { own = is.own; covered = is.covered; all = none_given core.node.kept given is.all }

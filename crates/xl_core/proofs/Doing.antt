@@ -44,14 +44,7 @@ issue_risen (Err w) old new counts = λ count is. counts count (ap (λ (v : Refu
 pub beat_risen : (beat : TimerAnswer) (old new : ℕ) → CountsBeatFault beat old new → IsRisen (save_at beat) old new
 beat_risen (timer_answer.Built seq id moved_on (issued.Refused w)) old new counts =
     λ count is. counts seq id moved_on count (ap (λ (v : Refusal). timer_answer.Built seq id moved_on (issued.Refused v)) (failed_why w count is))
-beat_risen (timer_answer.Built seq id moved_on issued.Full) old new counts = λ count is. cc
-beat_risen (timer_answer.Built seq id moved_on issued.Partial) old new counts = λ count is. cc
-beat_risen (timer_answer.Built seq id moved_on issued.Silent) old new counts = λ count is. cc
-beat_risen timer_answer.Nothing old new counts = λ count is. cc
-beat_risen timer_answer.Closed old new counts = λ count is. cc
-beat_risen timer_answer.Updated old new counts = λ count is. cc
-beat_risen (timer_answer.Switched seq id) old new counts = λ count is. cc
-beat_risen (timer_answer.NoRoom limit) old new counts = λ count is. cc
+beat_risen other old new counts = λ count is. cc
 
 counts_if : (asked : Option ℕ) (save : Save) (old new : ℕ) → IsRisen save old new → CountsFailure asked save old new
 counts_if None save old new risen = tt

@@ -239,12 +239,9 @@ waiting_there waiting (suc place) reader is = let same : place ≡ reader = omeg
 
 -- what found no room is too long
 pub found_no_room : (o : Option (List ℕ)) (at : ℕ) (old new : List ℕ) (r : Put) → IsPut o at old new r → r ≡ NoRoom → (f : List ℕ) × (o ≡ Some f) × (length old - at < length f) × (new ≡ old)
-found_no_room None at old new (Written count) is none = cc
-found_no_room None at old new PassedOver is none = cc
-found_no_room None at old new NoRoom is none = absurd is
-found_no_room (Some f) at old new (Written count) is none = cc
-found_no_room (Some f) at old new PassedOver is none = cc
 found_no_room (Some f) at old new NoRoom is none = (f, refl, is.0, is.1)
+found_no_room None at old new NoRoom is none = absurd is
+found_no_room o at old new r is none = cc
 
 -- what was passed over has no frame
 pub found_passed : (o : Option (List ℕ)) (at : ℕ) (old new : List ℕ) (r : Put) → IsPut o at old new r → r ≡ PassedOver → (o ≡ None) × (new ≡ old)

@@ -49,11 +49,7 @@ none_of f (Some x) e = absurd (some_none (f x) e)
 -- none of the causes holds
 none_holds : {X : Type 0} (a b c d e : Option X) → first_of (a ∷ b ∷ c ∷ d ∷ e ∷ []) ≡ None → (a ≡ None) × (b ≡ None) × (c ≡ None) × (d ≡ None) × (e ≡ None)
 none_holds None None None None None is = (refl, refl, refl, refl, refl)
-none_holds (Some x) b c d e is = absurd (some_none x is)
-none_holds None (Some x) c d e is = absurd (some_none x is)
-none_holds None None (Some x) d e is = absurd (some_none x is)
-none_holds None None None (Some x) e is = absurd (some_none x is)
-none_holds None None None None (Some x) is = absurd (some_none x is)
+none_holds a b c d e is = absurd cc
 
 -- nothing is refused of these bytes
 pub record Passes (ring : Ring) (members bytes : List ℕ) (f : RawFrame) : Type 0 where
@@ -171,10 +167,7 @@ same_validation a b e = cc
 -- a validation is said by the body of one
 validation_says : (v : Validation) (body : Body) → speech_of body ≡ speech.Validation v → body ≡ bodies.Validation v
 validation_says v (bodies.Validation u) is = ap (λ (w : Validation). (let b : Body = bodies.Validation w in b)) (same_validation u v is)
-validation_says v (bodies.Proposal p) is = cc
-validation_says v (bodies.Header header) is = cc
-validation_says v (bodies.TxSet ids) is = cc
-validation_says v (bodies.Tx id) is = cc
+validation_says v other is = cc
 
 -- a validation that is heard is the frame's body
 pub validation_body : (ring : Ring) (members bytes : List ℕ) (from : ℕ) (v : Validation) (h : IsHeard ring members bytes (record { from = from; what = speech.Validation v })) →

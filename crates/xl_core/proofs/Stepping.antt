@@ -36,10 +36,7 @@ pub record IsSame (n m : Node) : Type 0 where
 
 taking_same : (n : Node) (from : ℕ) (what : Speech) → IsSame n (taken_reply n from what).node
 taking_same n from (speech.Validation v) = record { me = refl; keys = refl }
-taking_same n from (speech.Header h) = record { me = refl; keys = refl }
-taking_same n from (speech.Proposal p) = record { me = refl; keys = refl }
-taking_same n from (speech.TxSet ids) = record { me = refl; keys = refl }
-taking_same n from (speech.Tx tx) = record { me = refl; keys = refl }
+taking_same n from other = record { me = refl; keys = refl }
 
 hearing_same : (n : Node) (bytes : List ℕ) → IsSame n (bytes_reply n bytes).node
 hearing_same n bytes = hearing_either (λ r. IsSame n r.node) n bytes (λ _. record { me = refl; keys = refl }) (λ said _. taking_same n said.from said.what)

@@ -125,10 +125,7 @@ taking_aside n from (speech.Validation v) other = record {
   own = ap (λ (o : Option Row). option_and_then (λ row. row.current) o) (other_row from n.me (take (second_of n) v) (taking_member (second_of n) v) other n.rows);
   items = refl;
 }
-taking_aside n from (speech.Header h) other = record { kept = refl; own = refl; items = refl }
-taking_aside n from (speech.Proposal p) other = record { kept = refl; own = refl; items = refl }
-taking_aside n from (speech.TxSet ids) other = record { kept = refl; own = refl; items = refl }
-taking_aside n from (speech.Tx tx) other = record { kept = refl; own = refl; items = refl }
+taking_aside n from what other = record { kept = refl; own = refl; items = refl }
 
 hearing_aside : (n : Node) (bytes : List ℕ) → ((said : Spoken) → spoken_in n.keys n.list.members bytes ≡ Ok said → said.from ≢ n.me) → IsAside n (bytes_reply n bytes)
 hearing_aside n bytes others = hearing_either (IsAside n) n bytes (aside n) (λ said is. taking_aside n said.from said.what (others said is))
@@ -148,15 +145,12 @@ place_handed (Ok became) = refl
 place_handed (Err why) = refl
 
 taking_keeps : (n : Node) (from : ℕ) (what : Speech) → IsHearing n (taken_reply n from what)
-taking_keeps n from (speech.Validation v) = record { kept = refl; given = refl; handed = refl }
-taking_keeps n from (speech.Header h) = record { kept = refl; given = refl; handed = refl }
 taking_keeps n from (speech.Proposal p) = record {
   kept = refl;
   given = place_given (proposal_answer n from p);
   handed = place_handed (proposal_answer n from p);
 }
-taking_keeps n from (speech.TxSet ids) = record { kept = refl; given = refl; handed = refl }
-taking_keeps n from (speech.Tx tx) = record { kept = refl; given = refl; handed = refl }
+taking_keeps n from other = record { kept = refl; given = refl; handed = refl }
 
 pub heard_keeps : (n : Node) (now : ℕ) (bytes : List ℕ) → IsHearing (at_moment now n) (bytes_reply (at_moment now n) bytes)
 heard_keeps n now bytes =

@@ -160,15 +160,12 @@ last_named last place position hs positions below is = record {
 }
 
 none_set : (n place : ℕ) (positions : List (Option SetId)) → All IsNone (drop n positions) → All IsNone (drop n (set positions place None))
-none_set zero zero [] none = none
-none_set zero (suc place) [] none = none
-none_set (suc n) zero [] none = none
-none_set (suc n) (suc place) [] none = none
 none_set zero zero (position ∷ positions) none = All-cons IsNone None positions refl (All-tail IsNone position positions none)
 none_set zero (suc place) (position ∷ positions) none =
     All-cons IsNone position (set positions place None) (All-head IsNone position positions none) (none_set zero place positions (All-tail IsNone position positions none))
-none_set (suc n) zero (position ∷ positions) none = none
 none_set (suc n) (suc place) (position ∷ positions) none = none_set n place positions none
+none_set (suc n) zero (position ∷ positions) none = none
+none_set n place positions none = none
 
 -- no position any more
 pub last_unnamed : (last place : ℕ) (hs : List Holding) (positions : List (Option SetId)) → IsLast last hs positions → IsLast last hs (set positions place None)

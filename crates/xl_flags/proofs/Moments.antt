@@ -54,11 +54,9 @@ not_yet c = grind (arith, nat_tests)
 stands : (e h : Bool) (c : ℕ) (s : Option ℕ) →
     (if e || is_old c (if h then Some (earlier_of c s) else None) then InForce else from_since (if h then Some (earlier_of c s) else None))
     ≡ stands_after (if e then InForce else from_since s) c h
-stands true h c s = refl
-stands false false c None = refl
-stands false false c (Some s) = refl
 stands false true c None = ap (λ (b : Bool). if b then InForce else Since c) (not_yet c)
-stands false true c (Some s) = refl
+stands false false c None = refl
+stands e h c s = refl
 
 pub standing_more : (a : TxId) (r : FlagReport) (older : List FlagReport) → standing_of a (r ∷ older) ≡ stands_after (standing_of a older) r.close (has_majority a r)
 standing_more a r older =
@@ -74,13 +72,10 @@ said : (i s : ℕ) (a : TxId) (e l h : Bool) (t : ℕ) (before : Option ℕ) →
     then Majority i s a ∷ []
     else (if not h && is_some before then Lost i s a ∷ [] else []))))
     ≡ news_between (if e then InForce else from_since before) (if e || l then InForce else from_since (if h then Some t else None)) i s a
-said i s a true l h t before = refl
 said i s a false true h t None = refl
-said i s a false true h t (Some u) = refl
 said i s a false false true t None = refl
-said i s a false false true t (Some u) = refl
 said i s a false false false t None = refl
-said i s a false false false t (Some u) = refl
+said i s a e l h t before = refl
 
 -- what is said is said by the two standings
 pub news_is : (i s : ℕ) (r : FlagReport) (older : List FlagReport) (a : TxId) → news_of i s r older a ≡ news_between (standing_of a older) (standing_of a (r ∷ older)) i s a

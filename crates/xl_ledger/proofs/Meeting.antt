@@ -11,12 +11,9 @@ use Rattle.xl_ledger.proofs.Ancestors.{chain_front, jump_parent}
 
 -- what stands behind the other's length changes nothing
 pub last_common-cut_left : (last n : ℕ) (xs ys : List ℕ) → length ys ≤ n → last_common last (take n xs) ys ≡ last_common last xs ys
-last_common-cut_left last zero [] ys le = refl
-last_common-cut_left last zero (x ∷ xs) [] le = refl
 last_common-cut_left last zero (x ∷ xs) (y ∷ ys) le = absurd (omega arith)
-last_common-cut_left last (suc n) [] ys le = refl
-last_common-cut_left last (suc n) (x ∷ xs) [] le = refl
 last_common-cut_left last (suc n) (x ∷ xs) (y ∷ ys) le = ap (λ (k : ℕ). cond (x == y) k last) (last_common-cut_left x n xs ys (omega arith))
+last_common-cut_left last n xs ys le = refl
 
 pub last_common-cut_right : (last n : ℕ) (xs ys : List ℕ) → length xs ≤ n → last_common last xs (take n ys) ≡ last_common last xs ys
 last_common-cut_right last n [] ys le = refl

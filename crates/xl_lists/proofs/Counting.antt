@@ -15,10 +15,7 @@ count_by-cons p x xs = sum_by-cons (λ y. cond (p y) 1 0) x xs
 
 -- at one element
 both_or_more : (a b : Bool) (m n k : ℕ) → m + n ≤ k → (cond a 1 0 + m) + (cond b 1 0 + n) ≤ (cond (a && b) 1 0 + k) + 1
-both_or_more true true m n k h = omega arith
-both_or_more true false m n k h = omega arith
-both_or_more false true m n k h = omega arith
-both_or_more false false m n k h = omega arith
+both_or_more a b m n k h = grind arith
 
 -- of two tests, what passes both is at least what they pass together, less the length
 pub count_both : (p q : ℕ → Bool) (xs : List ℕ) → count_by p xs + count_by q xs ≤ count_by (λ m. p m && q m) xs + length xs

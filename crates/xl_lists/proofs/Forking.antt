@@ -1,5 +1,5 @@
 -- Two quorums for two ledgers show those who spoke for both.
-use Rattle.std.proofs.Common.{◌≡◌, ℕ, ◌+◌, ◌≤◌, Bool, true, false, cond, List, [], ◌∷◌, arith, inl, inr, sym, subst}
+use Rattle.std.proofs.Common.{◌≡◌, ℕ, ◌+◌, ◌≤◌, Bool, true, cond, List, [], ◌∷◌, arith, inl, inr, sym, subst}
 use Rattle.std.specs.Prelude.{count_by, ◌&&◌, IsTrue, nat_eq}
 use Rattle.std.specs.List.{IsDistinct}
 use Rattle.std.proofs.lemmas.Bool.{and_parts, and_from, or_cases}
@@ -15,14 +15,7 @@ use Rattle.xl_lists.proofs.Counting.{count_by-cons, count_both, count_shared, co
 -- at one element
 one_in_part : (p r o : Bool) (m n k l : ℕ) → m + n ≤ k + l →
     (cond (p && o) 1 0 + m) + (cond (r && o) 1 0 + n) ≤ (cond (o && (p && r)) 1 0 + k) + (cond o 1 0 + l)
-one_in_part true true true m n k l h = omega arith
-one_in_part true true false m n k l h = omega arith
-one_in_part true false true m n k l h = omega arith
-one_in_part true false false m n k l h = omega arith
-one_in_part false true true m n k l h = omega arith
-one_in_part false true false m n k l h = omega arith
-one_in_part false false true m n k l h = omega arith
-one_in_part false false false m n k l h = omega arith
+one_in_part p r o m n k l h = grind arith
 
 -- of two tests, within a part, what passes both is at least what they pass together, less the part
 both_in_part : (p r o : ℕ → Bool) (xs : List ℕ) →

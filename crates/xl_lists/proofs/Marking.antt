@@ -33,9 +33,7 @@ marked_with bits member low high m =
 
 last_in : (is last on : Bool) → is ≡ on → (last || is) ≡ (on || (last || false))
 last_in true true on e = cc
-last_in true false on e = cc
-last_in false true on e = cc
-last_in false false on e = cc
+last_in is last on e = cc
 
 -- a member more on the list
 pub marked_more : (bits more member : ℕ) (members : List ℕ) → AreMarked bits members →

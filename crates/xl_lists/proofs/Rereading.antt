@@ -97,12 +97,8 @@ none_repeated seen (x ∷ xs) fresh once =
 
 pub no_cause : (b c d : Bool) (o p : Option ℕ) (x : ListRefusal) (y : ListRefusal) → b ≡ false → c ≡ false → o ≡ None → p ≡ None → d ≡ false →
     first_of (refused_if b Empty ∷ refused_if c x ∷ option_map OutOfRange o ∷ option_map Repeated p ∷ refused_if d y ∷ []) ≡ None
-no_cause true c d o p x y e f g h k = absurd cc
-no_cause false true d o p x y e f g h k = absurd cc
-no_cause false false true o p x y e f g h k = absurd cc
-no_cause false false false (Some m) p x y e f g h k = absurd cc
-no_cause false false false None (Some m) x y e f g h k = absurd cc
 no_cause false false false None None x y e f g h k = refl
+no_cause b c d o p x y e f g h k = absurd cc
 
 not_empty : (n : ℕ) → 1 ≤ n → (n == 0) ≡ false
 not_empty n some = grind (arith, nat_tests)

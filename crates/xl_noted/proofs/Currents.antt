@@ -60,10 +60,7 @@ unless_current n (Some failed) save v each = each
 
 taking_current : (n : Node) (from : ℕ) (what : Speech) → AreCurrent n → AreCurrent (taken_reply n from what).node
 taking_current n from (speech.Validation v) each = taken_rows (second_of n) from v n.rows each
-taking_current n from (speech.Header h) each = each
-taking_current n from (speech.Proposal p) each = each
-taking_current n from (speech.TxSet ids) each = each
-taking_current n from (speech.Tx tx) each = each
+taking_current n from other each = each
 
 issuing_current : (n : Node) (seq : ℕ) (id : LedgerId) (full : Bool) (save : Save) → AreCurrent n → AreCurrent (issuing_reply n seq id full save).node
 issuing_current n seq id full save each =

@@ -129,9 +129,7 @@ one_more tx (id ∷ ids) =
 
 answered_rest : (m : ℕ) (p : Proposal) (n : Node) (place : Result Placed RoundRefusal) → LeavesRest (speech.Proposal p) n (record n { round = with_answer place m p n.round })
 answered_rest m p n (Ok placed.Position) = (refl, refl, refl, refl)
-answered_rest m p n (Ok placed.Later) = (refl, refl, refl, refl)
-answered_rest m p n (Ok placed.Gone) = (refl, refl, refl, refl)
-answered_rest m p n (Err why) = (refl, refl, refl, refl)
+answered_rest m p n other = (refl, refl, refl, refl)
 
 itself_rest : (what : Speech) (n : Node) → LeavesRest what n n
 itself_rest (speech.Validation v) n = (refl, refl)

@@ -109,10 +109,7 @@ count_all p (x ∷ xs) all =
     ∙ omega (arith, count_all p xs (All-tail (λ m. p m ≡ true) x xs all))
 
 at_one : (a b : Bool) (m n k : ℕ) → m ≤ n + k → cond a 1 0 + m ≤ (cond (a && not b) 1 0 + n) + (cond b 1 0 + k)
-at_one true true m n k h = omega arith
-at_one true false m n k h = omega arith
-at_one false true m n k h = omega arith
-at_one false false m n k h = omega arith
+at_one a b m n k h = grind arith
 
 split : (p q : ℕ → Bool) (xs : List ℕ) → count_by p xs ≤ count_by (λ m. p m && not (q m)) xs + count_by q xs
 split p q [] = omega arith

@@ -229,11 +229,7 @@ need_in None zero raw n e = absurd cc
 
 last_none : (a b c d l : Option WireRefusal) → first_of (a ∷ b ∷ c ∷ d ∷ l ∷ []) ≡ None → l ≡ None
 last_none None None None None None e = refl
-last_none None None None None (Some r) e = absurd cc
-last_none None None None (Some r) l e = absurd cc
-last_none None None (Some r) d l e = absurd cc
-last_none None (Some r) c d l e = absurd cc
-last_none (Some r) b c d l e = absurd cc
+last_none a b c d l e = absurd cc
 
 lawful : (b c : Bool) (r : WireRefusal) → b ≡ true → refused_if (b && not c) r ≡ None → c ≡ true
 lawful b true r h e = refl

@@ -80,12 +80,9 @@ after_opening opening.Failed = Asks
 
 -- a session that the store ended is the last one
 abbrev pub served_of : End → Option Served
-served_of end.End = None
 served_of end.Stopped = Some served.Stopped
-served_of (end.Framing refusal) = None
-served_of end.LinkFault = None
-served_of end.OutOfMemory = None
 served_of (end.StoreFull n) = Some (served.StoreFull n)
+served_of other = None
 
 abbrev pub after_session : Option Served → Round
 after_session None = Asks

@@ -129,12 +129,9 @@ pub record IsTalk (may_give : ℕ → Bool) (member : ℕ) (steps : List Step) (
 
 -- what the causes that the steps don't show say of the link's counts of faults and of the tickets known to be drawn
 abbrev pub IsCause : ℕ → ℕ → ℕ → ℕ → End → Type 0
-IsCause turns before after drawn end.End = Unit {0}
-IsCause turns before after drawn end.Stopped = Unit {0}
-IsCause turns before after drawn (end.Framing refusal) = Unit {0}
 IsCause turns before after drawn end.LinkFault = Rose before after
-IsCause turns before after drawn end.OutOfMemory = Unit {0}
 IsCause turns before after drawn (end.StoreFull n) = (n ≡ turns) × (drawn ≡ turns)
+IsCause turns before after drawn other = Unit {0}
 
 -- A whole session of a pass over a link, at a store that was opened with this core and has this many turns: its calls
 -- stand in the history at the places that the pass gained, its reads and questions are those that the link answered, each

@@ -48,11 +48,9 @@ below_through a b c ab bc =
     below_is a c ∙ ap is_lt (roll_total.trans a b c (less_is (roll_cmp a b) (sym (below_is a b) ∙ ab)) (less_is (roll_cmp b c) (sym (below_is b c) ∙ bc)))
 
 neither : (o p : Ordering) → o ≡ ordering_reverse p → is_lt o ≡ false → is_lt p ≡ false → o ≡ Equal
-neither Less p e h k = absurd cc
 neither Equal p e h k = refl
 neither Greater Less e h k = absurd cc
-neither Greater Equal e h k = absurd cc
-neither Greater Greater e h k = absurd cc
+neither o p e h k = absurd cc
 
 then_equal : (o p : Ordering) → ordering_then o p ≡ Equal → p ≡ Equal
 then_equal Less p h = absurd cc

@@ -51,13 +51,8 @@ record Fail (a b c d e f : Bool) : Type 0 where
   long : f ≡ false
 
 six_fail : (a b c d e f : Bool) (u v w x y z : RollRefusal) → first_of (refused_if a u ∷ refused_if b v ∷ refused_if c w ∷ refused_if d x ∷ refused_if e y ∷ refused_if f z ∷ []) ≡ None → Fail a b c d e f
-six_fail true b c d e f u v w x y z h = absurd cc
-six_fail false true c d e f u v w x y z h = absurd cc
-six_fail false false true d e f u v w x y z h = absurd cc
-six_fail false false false true e f u v w x y z h = absurd cc
-six_fail false false false false true f u v w x y z h = absurd cc
-six_fail false false false false false true u v w x y z h = absurd cc
 six_fail false false false false false false u v w x y z h = record { first = refl; second = refl; version = refl; count = refl; short = refl; long = refl }
+six_fail a b c d e f u v w x y z h = absurd cc
 
 none_of_six : (a b c d e f : Bool) (u v w x y z : RollRefusal) → Fail a b c d e f → first_of (refused_if a u ∷ refused_if b v ∷ refused_if c w ∷ refused_if d x ∷ refused_if e y ∷ refused_if f z ∷ []) ≡ None
 none_of_six a b c d e f u v w x y z h = rw (h.first, h.second, h.version, h.count, h.short, h.long) refl

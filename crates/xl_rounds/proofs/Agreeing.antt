@@ -20,12 +20,10 @@ use Rattle.xl_rounds.specs.Numbers.{least_ms, consensus_percent}
 
 -- of the lines only two say yes
 yes_by : (young short alone agree moved : Bool) → cond young No (cond short No (cond alone Yes (cond agree Yes (cond moved MovedOn No)))) ≡ Yes → (alone ≡ true) ⊎ (agree ≡ true)
-yes_by true short alone agree moved e = absurd (cc e)
-yes_by false true alone agree moved e = absurd (cc e)
 yes_by false false true agree moved e = inl refl
 yes_by false false false true moved e = inr refl
 yes_by false false false false true e = absurd (cc e)
-yes_by false false false false false e = absurd (cc e)
+yes_by young short alone agree moved e = absurd (cc e)
 
 four_fifths : (agree total : ℕ) → nat_le consensus_percent (agree * 100 / total) ≡ true → total * consensus_percent ≤ agree * 100
 four_fifths agree total enough =

@@ -4,7 +4,7 @@ use Rattle.std.proofs.lemmas.Bool.{cond_both, cond-false, le-ltb}
 use Rattle.std.specs.Prelude.{nat_lt, is_some}
 use Rattle.xl_rounds.specs.declared.agreement.Tally.{Tally}
 use Rattle.xl_rounds.specs.declared.agreement.Consensus.{Consensus}
-use Rattle.xl_rounds.specs.declared.agreement.Consensus.TheVariants.{No, Yes, MovedOn}
+use Rattle.xl_rounds.specs.declared.agreement.Consensus.TheVariants.{No}
 use Rattle.xl_rounds.specs.declared.decision.Decision.{Decision}
 use Rattle.xl_rounds.specs.declared.heartbeat.Said.{Said}
 use Rattle.xl_rounds.specs.declared.heartbeat.HeartbeatKind.{HeartbeatKind}
@@ -75,11 +75,8 @@ quiet_told r = record { ready = refl; setting = refl }
 concluded_ready : (r : Round) (round_ms : ℕ) (c : Consensus) (agreed is_new : Bool) (said : Option Said) →
     is_some (ready_after (outcome c agreed) round_ms) ≡ is_ready (kind_of (outcome c agreed) is_new)
 concluded_ready r round_ms c false true said = refl
-concluded_ready r round_ms c false false said = refl
 concluded_ready r round_ms No true true said = refl
-concluded_ready r round_ms No true false said = refl
-concluded_ready r round_ms Yes true is_new said = refl
-concluded_ready r round_ms MovedOn true is_new said = refl
+concluded_ready r round_ms c agreed is_new said = refl
 
 after_third_setting : (r : Round) (second : ℕ) (d : Decision) → (after_third r second d).setting ≡ r.setting
 after_third_setting r second d =

@@ -1,11 +1,11 @@
 -- Later proposals are handed one after the other.
 use Rattle.std.proofs.Common.{◌≡◌, ℕ, suc, ◌+◌, ap, sym, ◌∙◌, refl, arith, List, Option, Some, None}
-use Rattle.std.specs.Prelude.{Result, Ok, Err, if◌then◌else◌}
+use Rattle.std.specs.Prelude.{Result, Ok, if◌then◌else◌}
 use Rattle.std.proofs.lemmas.Bool.{cond_both}
 use Rattle.xl_wire.specs.declared.proposal.Proposal.{Proposal}
 use Rattle.xl_ledger.specs.declared.header.Header.{Header}
 use Rattle.xl_rounds.specs.declared.placed.Placed.{Placed}
-use Rattle.xl_rounds.specs.declared.placed.Placed.TheVariants.{Position, Later, Gone}
+use Rattle.xl_rounds.specs.declared.placed.Placed.TheVariants.{Position, Later}
 use Rattle.xl_rounds.specs.declared.refusal.RoundRefusal.{RoundRefusal}
 use Rattle.xl_rounds.specs.Rounds.{Round}
 use Rattle.xl_rounds.specs.Proposals.{is_ours, is_past, answer, with_answer, with_proposal, without_later, with_handed, later_of, with_all_handed}
@@ -13,9 +13,7 @@ use Rattle.xl_rounds.specs.Proposals.{is_ours, is_past, answer, with_answer, wit
 -- the round stays on its ledger
 pub setting_answered : (a : Result Placed RoundRefusal) (member : ℕ) (p : Proposal) (r : Round) → (with_answer a member p r).setting ≡ r.setting
 setting_answered (Ok Position) member p r = refl
-setting_answered (Ok Later) member p r = refl
-setting_answered (Ok Gone) member p r = refl
-setting_answered (Err why) member p r = refl
+setting_answered other member p r = refl
 
 pub setting_handed : (ledgers : List Header) (member : ℕ) (later : Option Proposal) (now : ℕ) (r : Round) → (with_handed ledgers member later now r).setting ≡ r.setting
 setting_handed ledgers member None now r = refl

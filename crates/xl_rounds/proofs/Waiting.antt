@@ -30,11 +30,8 @@ gone_at (z ∷ xs) (suc k) = gone_at xs k
 never_later : (ours past repeated gone old leaving : Bool) (wrong kept left stale : RoundRefusal) → ours ≡ true →
     cond (not ours && past) (Err wrong) (cond (not ours) (Ok Later) (cond repeated (Err kept) (cond gone (Err left) (cond old (Err stale) (cond leaving (Ok Gone) (Ok Position)))))) ≡ Ok Later → ⊥
 never_later false past repeated gone old leaving wrong kept left stale is e = cc is
-never_later true past true gone old leaving wrong kept left stale is e = cc e
-never_later true past false true old leaving wrong kept left stale is e = cc e
-never_later true past false false true leaving wrong kept left stale is e = cc e
 never_later true past false false false true wrong kept left stale is e = cc e
-never_later true past false false false false wrong kept left stale is e = cc e
+never_later true past repeated gone old leaving wrong kept left stale is e = cc e
 
 none_left : (ledgers : List Header) (a : Result Placed RoundRefusal) (member now : ℕ) (p : Proposal) (r : Round) → answer ledgers r member p now ≡ a → is_ours r p ≡ true →
     later_of r member ≡ None → later_of (with_answer a member p r) member ≡ None

@@ -35,10 +35,7 @@ IsFitLied other = Unit {0}
 abbrev pub IsFitWhat : Reading → ℕ → What → Type 0
 IsFitWhat reading sent (what.Ask ask) = IsFitAsk reading ask
 IsFitWhat reading sent (what.Submit node tx) = is_on reading.nodes node ≡ true
-IsFitWhat reading sent what.Timers = Unit {0}
 IsFitWhat reading sent (what.Deliver place) = (1 ≤ place) × (place ≤ sent)
-IsFitWhat reading sent what.All = Unit {0}
-IsFitWhat reading sent what.Drop = Unit {0}
 IsFitWhat reading sent (what.Greet node peer) =
     (is_on reading.nodes node ≡ true) × (is_peer reading node peer ≡ true)
 IsFitWhat reading sent (what.Restart node) = is_on reading.nodes node ≡ true
@@ -51,6 +48,7 @@ IsFitWhat reading sent (what.Prefer node) = is_on reading.nodes node ≡ true
 IsFitWhat reading sent (what.List node list) =
     (is_on reading.nodes node ≡ true) × (reading.lists < most_lists) × IsValid list
 IsFitWhat reading sent (what.Heard node) = is_on reading.nodes node ≡ true
+IsFitWhat reading sent other = Unit {0}
 
 -- a line that declares nothing twice and no ledger above all that may be, or such an event at a moment that there may
 -- be

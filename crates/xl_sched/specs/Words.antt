@@ -62,9 +62,7 @@ is_declaration setting.Limit = true
 is_declaration setting.Speak = true
 is_declaration setting.Node = true
 is_declaration setting.Liar = true
-is_declaration setting.At = false
-is_declaration setting.Name = false
-is_declaration setting.Ledger = false
+is_declaration other = false
 
 -- the line of a word at which nothing happens, and of the tokens after it
 abbrev pub set_line : Reading → SettingWord → List (List ℕ) → Result Line SchedRefusal

@@ -36,9 +36,5 @@ outcome_as (issued.Refused why) = outcome_told why
 
 -- of a timer
 abbrev pub outcome_at : TimerAnswer → Option Saved
-outcome_at timer_answer.Nothing = None
-outcome_at timer_answer.Closed = None
-outcome_at timer_answer.Updated = None
-outcome_at (timer_answer.Switched seq id) = None
-outcome_at (timer_answer.NoRoom limit) = None
 outcome_at (timer_answer.Built seq id moved_on how) = outcome_as how
+outcome_at other = None

@@ -84,10 +84,7 @@ passed : (to from on right : Bool) (a b c : TagRefusal)
     → (if not to then Some a else if from || not on then Some b else if right then None else Some c) ≡ None
     → (to ≡ true) × (from ≡ false) × (on ≡ true) × (right ≡ true)
 passed true false true true a b c e = (refl, refl, refl, refl)
-passed true false true false a b c e = absurd cc
-passed true false false right a b c e = absurd cc
-passed true true on right a b c e = absurd cc
-passed false from on right a b c e = absurd cc
+passed to from on right a b c e = absurd cc
 
 pass : (to from on right : Bool) (a b c : TagRefusal) → to ≡ true → from ≡ false → on ≡ true → right ≡ true
     → (if not to then Some a else if from || not on then Some b else if right then None else Some c) ≡ None

@@ -28,11 +28,8 @@ holds_where b true e f = refl
 holds_where b false e f = absurd (cc)
 
 four_cells : (bytes : List ℕ) → 4 ≤ length bytes → bytes ≡ (slice_index bytes 0 ∷ slice_index bytes 1 ∷ slice_index bytes 2 ∷ slice_index bytes 3 ∷ []) ++ drop 4 bytes
-four_cells [] h = absurd (omega arith)
-four_cells (a ∷ []) h = absurd (omega arith)
-four_cells (a ∷ b ∷ []) h = absurd (omega arith)
-four_cells (a ∷ b ∷ c ∷ []) h = absurd (omega arith)
 four_cells (a ∷ b ∷ c ∷ d ∷ bytes) h = refl
+four_cells bytes h = absurd (omega arith)
 
 -- what bytes that aren't refused show
 record IsHead (bytes : List ℕ) : Type 0 where
@@ -49,11 +46,7 @@ record Passes (bytes : List ℕ) : Type 0 where
 
 all_none : (a b c d e : Option WireRefusal) → first_of (a ∷ b ∷ c ∷ d ∷ e ∷ []) ≡ None → (a ≡ None) × (b ≡ None) × (c ≡ None) × (d ≡ None) × (e ≡ None)
 all_none None None None None None h = (refl, refl, refl, refl, refl)
-all_none (Some r) b c d e h = absurd cc
-all_none None (Some r) c d e h = absurd cc
-all_none None None (Some r) d e h = absurd cc
-all_none None None None (Some r) e h = absurd cc
-all_none None None None None (Some r) h = absurd cc
+all_none a b c d e h = absurd cc
 
 none_all : (a b c d e : Option WireRefusal) → a ≡ None → b ≡ None → c ≡ None → d ≡ None → e ≡ None → first_of (a ∷ b ∷ c ∷ d ∷ e ∷ []) ≡ None
 none_all a b c d e p q r s t = rw (p, q, r, s, t) refl

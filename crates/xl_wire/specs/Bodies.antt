@@ -23,11 +23,8 @@ version_for None = 1
 version_for (Some id) = 2
 
 abbrev pub version_of : Body → ℕ
-version_of (bodies.Proposal proposal) = 1
 version_of (bodies.Validation validation) = version_for validation.validated
-version_of (bodies.Header header) = 1
-version_of (bodies.TxSet ids) = 1
-version_of (bodies.Tx id) = 1
+version_of other = 1
 
 abbrev pub kind_of : Body → ℕ
 kind_of (bodies.Proposal proposal) = 1

@@ -1,5 +1,5 @@
 -- What `clap` finds in the words that are exactly those of a command.
-use Rattle.std.proofs.Common.{zero, suc, ◌+◌, ◌-◌, subst, true, false, Result, Ok, Err, IfOk, ◌⊎◌, ◌<◌, inl, inr, ◌==◌, ◌≡◌, ◌∙◌, ℕ, List, [], ◌∷◌, drop, Option, Some, None, refl, sym, ap, codes, arith}
+use Rattle.std.proofs.Common.{suc, ◌+◌, ◌-◌, subst, true, false, Result, Ok, Err, IfOk, ◌⊎◌, ◌<◌, inl, inr, ◌==◌, ◌≡◌, ◌∙◌, ℕ, List, [], ◌∷◌, drop, Option, Some, None, refl, sym, ap, codes, arith}
 use Rattle.std.specs.Result.{result_ok}
 use Rattle.std.specs.Option.{ok_or}
 use Rattle.clap.proofs.OnLiterals.{clap_on_literals}
@@ -89,16 +89,8 @@ short_version_is name = refl
 gen_at : (name : Text) (k : ℕ) (ds : List ℕ) (n : ℕ) → k < 9 → is_unsigned_in 1 1000 ((49 + k) ∷ ds) ≡ true → digits_value 10 ((49 + k) ∷ ds) ≡ n
     → command_of (name ∷ codes "gen" ∷ ((49 + k) ∷ ds) ∷ []) ≡ Some (gen n)
 unfolding clap_on_literals
-gen_at name zero ds n small ok value = rw ok (ap (λ (m : ℕ). Some (gen m)) value)
-gen_at name (suc zero) ds n small ok value = rw ok (ap (λ (m : ℕ). Some (gen m)) value)
-gen_at name (suc (suc zero)) ds n small ok value = rw ok (ap (λ (m : ℕ). Some (gen m)) value)
-gen_at name (suc (suc (suc zero))) ds n small ok value = rw ok (ap (λ (m : ℕ). Some (gen m)) value)
-gen_at name (suc (suc (suc (suc zero)))) ds n small ok value = rw ok (ap (λ (m : ℕ). Some (gen m)) value)
-gen_at name (suc (suc (suc (suc (suc zero))))) ds n small ok value = rw ok (ap (λ (m : ℕ). Some (gen m)) value)
-gen_at name (suc (suc (suc (suc (suc (suc zero)))))) ds n small ok value = rw ok (ap (λ (m : ℕ). Some (gen m)) value)
-gen_at name (suc (suc (suc (suc (suc (suc (suc zero))))))) ds n small ok value = rw ok (ap (λ (m : ℕ). Some (gen m)) value)
-gen_at name (suc (suc (suc (suc (suc (suc (suc (suc zero)))))))) ds n small ok value = rw ok (ap (λ (m : ℕ). Some (gen m)) value)
 gen_at name (suc (suc (suc (suc (suc (suc (suc (suc (suc k))))))))) ds n small ok value = absurd (omega (arith, small))
+gen_at name k ds n small ok value = rw ok (ap (λ (m : ℕ). Some (gen m)) value)
 
 gen_is : (name : Text) (d : ℕ) (ds : List ℕ) (n : ℕ) → IsRounds (d ∷ ds) n → command_of (name ∷ codes "gen" ∷ (d ∷ ds) ∷ []) ≡ Some (gen n)
 gen_is name d ds n h =

@@ -223,11 +223,8 @@ BytesSay P bytes = IfSome (said_in bytes) P
 
 -- what a body says
 abbrev BodySays : (SaidLedger → Type 0) → ℕ → Body → Type 0
-BodySays P me (bodies.Proposal p) = Unit {0}
 BodySays P me (bodies.Validation v) = P (said_by me v)
-BodySays P me (bodies.Header header) = Unit {0}
-BodySays P me (bodies.TxSet ids) = Unit {0}
-BodySays P me (bodies.Tx id) = Unit {0}
+BodySays P me other = Unit {0}
 
 item_body : (P : SaidLedger → Type 0) (n : Node) (item : Item) → ItemSays P n.me item → IfSome (body_in n item) (BodySays P n.me)
 item_body P n (ValidationItem v) says = says
@@ -243,10 +240,7 @@ item_body P n (HeaderItem id) says = by (place_of n.ledgers.headers id)
 -- a sealed frame says what its body says
 body_says : (P : SaidLedger → Type 0) (ring : Ring) (from to : ℕ) (body : Body) → has_spelling from to body ≡ true → BodySays P from body → BytesSay P (sealed_bytes ring from to body)
 body_says P ring from to (bodies.Validation v) h says = subst (λ o. IfSome o P) (sym (sealed_said ring from to v h)) says
-body_says P ring from to (bodies.Proposal p) h says = subst (λ o. IfSome o P) (sym (sealed_else ring from to (bodies.Proposal p) h refl)) tt
-body_says P ring from to (bodies.Header header) h says = subst (λ o. IfSome o P) (sym (sealed_else ring from to (bodies.Header header) h refl)) tt
-body_says P ring from to (bodies.TxSet ids) h says = subst (λ o. IfSome o P) (sym (sealed_else ring from to (bodies.TxSet ids) h refl)) tt
-body_says P ring from to (bodies.Tx id) h says = subst (λ o. IfSome o P) (sym (sealed_else ring from to (bodies.Tx id) h refl)) tt
+body_says P ring from to other h says = subst (λ o. IfSome o P) (sym (sealed_else ring from to other h refl)) tt
 
 framed_says : (P : SaidLedger → Type 0) (n : Node) (to : ℕ) (o : Option Body) (rest : List (Option (List ℕ))) → IfSome o (BodySays P n.me) → All (BytesSay P) (frames_in rest) → All (BytesSay P) (frames_in (option_and_then (frame_for n to) o ∷ rest))
 framed_says P n to None rest says each = each

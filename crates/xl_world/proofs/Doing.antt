@@ -152,9 +152,7 @@ TellsIssued seq id r = (member : ℕ) → said_by_issued member seq id (how_issu
 
 unless_told : (n : Node) (off : Option ℕ) (save : Save) (seq : ℕ) (id : LedgerId) (full : Bool) → TellsIssued seq id (issued_unless_off n off save (own_validation n seq id full))
 unless_told n None AnsweredOk seq id true member = refl
-unless_told n None AnsweredOk seq id false member = refl
-unless_told n None (AnsweredFailed count) seq id full member = refl
-unless_told n (Some failed) save seq id full member = refl
+unless_told n off save seq id full member = refl
 
 issuing_told : (n : Node) (seq : ℕ) (id : LedgerId) (full : Bool) (save : Save) → TellsIssued seq id (issuing_reply n seq id full save)
 issuing_told n seq id full save =

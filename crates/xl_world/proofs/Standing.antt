@@ -54,10 +54,7 @@ NodeSays P n = All (RowSays P) n.rows
 -- P holds of what waits at a number to be sent
 abbrev pub ItemSays : (SaidLedger → Type 0) → ℕ → Item → Type 0
 ItemSays P me (ValidationItem v) = P (said_by me v)
-ItemSays P me (Tx tx) = Unit {0}
-ItemSays P me (TxSet id) = Unit {0}
-ItemSays P me (Proposal p) = Unit {0}
-ItemSays P me (Header id) = Unit {0}
+ItemSays P me other = Unit {0}
 
 -- P holds of each validation that stands at the core, in a row or waiting
 pub record CoreSays (P : SaidLedger → Type 0) (core : Core) : Type 0 where
