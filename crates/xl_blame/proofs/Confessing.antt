@@ -7,11 +7,10 @@ use Rattle.xl_forks.specs.declared.equivocation.Equivocation.{Equivocation}
 use Rattle.xl_forks.specs.declared.said.Said.{Said}
 use Rattle.xl_given.specs.declared.givers.Giver.{Giver}
 use Rattle.xl_shown.specs.declared.course.End.{End}
-use Rattle.xl_blame.specs.Confessions.{answer_text, answers_if, answers_text, is_own, journal_from, journal_of, named_text, own_entry}
+use Rattle.xl_blame.specs.Confessions.{answer_text, answers_if, answers_text, is_own, journal_of, named_text, own_entry}
 use Rattle.xl_blame.specs.Summary.{last_line, shown_text}
 use Rattle.xl_blame.specs.Texts.{fork_line, heard_line, twice_line}
 use Rattle.xl_blame.specs.declared.summary.Tally.{Tally}
-use Rattle.xl_blame.proofs.Mixing.{here}
 
 -- TWO WORDS FOR WHO GAVE WHAT
 

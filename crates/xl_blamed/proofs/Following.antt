@@ -5,8 +5,7 @@ use Rattle.std.proofs.lemmas.Bool.{cond_both}
 use Rattle.std.proofs.lemmas.List.{append_assoc, append-nil, length-append}
 use Rattle.std.proofs.lemmas.List.Elements.{All-append, All-cons, All-nil}
 use Rattle.xl_lines.specs.Lines.{Line}
-use Rattle.xl_lines.specs.Rules.{Step, Told, goes_on, refuses, finds}
-use Rattle.xl_lines.specs.Told.{after}
+use Rattle.xl_lines.specs.Rules.{Step, goes_on, refuses, finds}
 use Rattle.xl_tags.specs.Rings.{Ring}
 use Rattle.xl_core.specs.Core.{Core}
 use Rattle.xl_store.specs.Entries.{IsAllowed, reply_of, save_of}

@@ -26,7 +26,6 @@ use Rattle.xl_forks.specs.Forks.{forks_in}
 use Rattle.xl_given.specs.Given.{count_given}
 use Rattle.xl_shown.specs.Courses.{course_step, end_of, may_end}
 use Rattle.xl_shown.specs.declared.course.End.{End}
-use Rattle.xl_shown.specs.declared.course.Judged.TheVariants.{No}
 use Rattle.xl_blame.specs.Blaming.{Blaming, at_first, bounded_step, ended_step, told_at_end, journal_step, limits, number_of, overrun_of, read_step, rules}
 use Rattle.xl_blame.specs.Texts.{journal_line}
 use Rattle.xl_blamed.specs.Gathering.{IsGathered, IsNamed, given_from, words_from}

@@ -40,7 +40,7 @@ use Rattle.xl_core.specs.CoreLives.{CoreHappening, core_after, held_after, given
 use Rattle.xl_core.specs.Hearing.{spoken_in}
 use Rattle.xl_core.specs.Items.{is_own, body_in, frame_for, frame_of, header_body_at}
 use Rattle.xl_core.specs.Node as nodes
-use Rattle.xl_core.specs.Node.{Node, Save, is_kept, issued_reply, issued_unless_off, issuing_reply, reply_with, timer_reply, timer_outcome, validates, refusing_reply, at_moment, second_of, own_validation, happens, opened_node}
+use Rattle.xl_core.specs.Node.{Node, Save, is_kept, issued_unless_off, issuing_reply, reply_with, timer_reply, timer_outcome, validates, refusing_reply, at_moment, own_validation, happens, opened_node}
 use Rattle.xl_core.specs.Issuing.Save.{Kept, Failed}
 use Rattle.xl_core.specs.Queues.{waiting_at, frames_in}
 use Rattle.xl_core.specs.Sending.{blank_frame, sealed_bytes, has_spelling}

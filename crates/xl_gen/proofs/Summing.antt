@@ -26,7 +26,7 @@ use Rattle.xl_world.proofs.Lists.{core_headline}
 use Rattle.xl_world.proofs.Runs.{run-append}
 use Rattle.xl_world.proofs.Unlisted.{SetsNone, lists_stay}
 use Rattle.xl_running.specs.Defaults.{default_limit, default_speak}
-use Rattle.xl_replay.specs.Headlines.{full_of, is_full}
+use Rattle.xl_replay.specs.Headlines.{full_of}
 use Rattle.xl_replay.specs.Texts.{agreement_line, forged_line, short_lines}
 use Rattle.xl_replay.proofs.Telling.{Adds, adds_none, adds_then, event_adds}
 use Rattle.xl_gen.specs.declared.counts.Counts.{Counts}

@@ -3,7 +3,7 @@ use Rattle.std.proofs.Common.{◌≡◌, ℕ, Bool, List, [], ◌∷◌, refl, a
 use Rattle.xl_base.specs.Counts.{one_more}
 use Rattle.xl_base.specs.declared.ids.LedgerId.{LedgerId}
 use Rattle.xl_lines.specs.Lines.{lines_of}
-use Rattle.xl_lines.specs.Rules.{Step, Told, goes_on, refuses as stops, finds}
+use Rattle.xl_lines.specs.Rules.{Step, goes_on, refuses as stops, finds}
 use Rattle.xl_lines.specs.Soon.{told_soon, unclosed, answerable}
 use Rattle.xl_lines.specs.Told.{told_of}
 use Rattle.xl_lists.specs.declared.said.SaidLedger.{SaidLedger}

@@ -8,10 +8,10 @@ use Rattle.std.proofs.lemmas.List.{append-nil}
 use Rattle.std.proofs.lemmas.List.Elements.{filter-append, All-nil, All-cons, All-head, All-tail}
 use Rattle.std.proofs.lemmas.List.Folds.{list_any-append}
 use Rattle.std.proofs.lemmas.List.Sums.{length-filter, count_by-le-length}
-use Rattle.xl_base.specs.Refusals.{refused_if, first_of, unless_refused}
+use Rattle.xl_base.specs.Refusals.{unless_refused}
 use Rattle.xl_lists.specs.Lists.{TrustedList, is_on, is_outside, repeated_after, rising, all_numbers, is_quorum, list_of, IsValid}
 use Rattle.xl_lists.specs.declared.refusal.ListRefusal.{ListRefusal}
-use Rattle.xl_lists.specs.declared.refusal.ListRefusal.TheVariants.{Empty, TooMany, OutOfRange, Repeated, Quorum}
+use Rattle.xl_lists.specs.declared.refusal.ListRefusal.TheVariants.{TooMany, Quorum}
 use Rattle.xl_lists.proofs.Counting.{count_by-cons, count_shared}
 use Rattle.xl_lists.proofs.Rereading.{no_cause, none_repeated}
 use Rattle.xl_nunl.specs.Lists.{IsNegative, least_quorum, staying_up_to, staying_members, list_without, MayBeInForce}

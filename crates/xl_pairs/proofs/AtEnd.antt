@@ -2,11 +2,10 @@
 use Rattle.std.proofs.Common.{◌≡◌, ◌==◌, ℕ, Bool, List, [], true, refl, Option, Some, None}
 use Rattle.std.proofs.lemmas.Bool.{cond_both}
 use Rattle.xl_lines.specs.declared.machine.Verdict.TheVariants.{Good, Refused}
-use Rattle.xl_lines.specs.Rules.{Step, closes}
+use Rattle.xl_lines.specs.Rules.{closes}
 use Rattle.xl_lines.specs.Ends.{FindsNothing, FindsAtEnd}
 use Rattle.xl_sched.specs.Answers.{LineAnswer, passes, gives, refuses, reading_of}
 use Rattle.xl_sched.specs.BadLines.{bad_line}
-use Rattle.xl_sched.specs.declared.line.Line.{Line}
 use Rattle.xl_sched.specs.declared.line.Line.TheVariants as line
 use Rattle.xl_sched.specs.declared.refusal.SchedRefusal.TheVariants.{Header}
 use Rattle.xl_pairs.specs.Comparing.{Comparing, after_answer, unless_foreign, told_at_end, rules}

@@ -2,9 +2,9 @@
 use Rattle.std.proofs.Common.{◌≡◌, ◌≢◌, ℕ, zero, suc, ◌+◌, ◌-◌, ◌^◌, ◌<◌, ◌≤◌, List, [], ◌∷◌, ◌++◌, length, map, replicate, get_or, set, Option, Some, None, IsSome, refl, sym, ap, subst, ◌∙◌, inl, inr, arith, append_assoc, length-set}
 use Rattle.std.proofs.lemmas.Bool.{cases_eq, cases_lt, true≢false}
 use Rattle.std.proofs.lemmas.List.{get_or-append-add, get_or-map, get_or_append_left, get_or-set_other, get_or-set_same, length-append, length-map, map-append, map-set, set-append_left}
-use Rattle.xl_pool.specs.Pools.{Slot, empty_slot, generation_of, get, live, slot_at}
+use Rattle.xl_pool.specs.Pools.{empty_slot, generation_of, get, live, slot_at}
 use Rattle.xl_pool.specs.declared.name.Name.{Name}
-use Rattle.xl_pool.specs.Entries.{IsFreeList, IsKept, IsSound, all_of, link_of, seen, untouched}
+use Rattle.xl_pool.specs.Entries.{IsKept, IsSound, all_of, link_of, seen, untouched}
 use Rattle.xl_pool.specs.declared.entry.Entry.{Entry}
 use Rattle.xl_pool.specs.declared.entry.Content.TheVariants.{Free}
 use Rattle.xl_pool.proofs.Finding.{given, given_empty, given_other}

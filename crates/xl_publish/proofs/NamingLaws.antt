@@ -6,7 +6,6 @@ use Rattle.std.specs.Option.{option_or}
 use Rattle.std.proofs.lemmas.Bool.{cases_Bool, cond-true, cond-false, eqb-true}
 use Rattle.xl_base.specs.Refusals.{first_of}
 use Rattle.xl_lists.specs.Lists.{is_on}
-use Rattle.xl_publish.specs.declared.line_refusal.LineRefusal.{LineRefusal}
 use Rattle.xl_publish.specs.declared.line_refusal.LineRefusal.TheVariants.{Stranger, Roll}
 use Rattle.xl_publish.specs.declared.publishers.Took.{Took}
 use Rattle.xl_publish.specs.declared.publishers.Took.TheVariants.{New, Kept}

@@ -6,16 +6,14 @@ use Rattle.std.proofs.lemmas.Bool.{cond_both, cases_lt}
 use Rattle.std.proofs.lemmas.List.Elements.{All-contains, All-contains_itself, All-cons, All-map, All-nil, All-weaker, Contains-append_left, Contains-append_right, Contains-push}
 use Rattle.xl_base.specs.declared.ids.LedgerId.{LedgerId}
 use Rattle.xl_io.specs.Sinks.{GrewByFront}
-use Rattle.xl_io.proofs.Growing.{append_known-none}
 use Rattle.xl_lists.specs.declared.report.Report.{Report as Reported}
 use Rattle.xl_lists.specs.Quorums.{Enough}
 use Rattle.xl_lines.specs.declared.machine.Verdict.TheVariants.{Refused as IsRefused}
 use Rattle.xl_lines.specs.Lines.{lines_of}
 use Rattle.xl_lines.specs.Rules.{Told, closes}
-use Rattle.xl_lines.specs.Told.{told_of}
 use Rattle.xl_sched.specs.declared.refusal.SchedRefusal.TheVariants.{Header}
 use Rattle.xl_world.specs.declared.outcome.Outcome.{Outcome}
-use Rattle.xl_world.specs.declared.outcome.Outcome.TheVariants.{Switched, Built, Refused, Full, Preferred, Heard}
+use Rattle.xl_world.specs.declared.outcome.Outcome.TheVariants.{Full}
 use Rattle.xl_world.specs.Forks.{first_fork}
 use Rattle.xl_world.specs.World.{World}
 use Rattle.xl_world.specs.Starts.{IsRun}
@@ -24,7 +22,7 @@ use Rattle.xl_world.proofs.Reporters.{IsReporter, world_reporters}
 use Rattle.xl_running.specs.Texts.{bad_line}
 use Rattle.xl_replay.specs.Texts.{forged_line, agreement_line, end_lines}
 use Rattle.xl_running.specs.Running.{Running, at_first, limits, world_of}
-use Rattle.xl_replay.specs.Replays.{told_at_end, verdict_of, rules, report_of}
+use Rattle.xl_replay.specs.Replays.{told_at_end, verdict_of, report_of}
 use Rattle.xl_replay.specs.Headlines.{announced_line, short_text, IsPair, is_full, full_of, outcomes_in, state_from, names_of, world_after, IsReport, IsRefusal, AddsReport}
 use Rattle.xl_replay.proofs.Shorts.{short_pairs, short_lines-pairs, pair_enough}
 use Rattle.xl_replay.proofs.Fronts.{adds_report}

@@ -16,24 +16,23 @@ use Rattle.hex.proofs.HexLemmas.{IsDigits-lower_digits, decode_pairs-encode_with
 use Rattle.xl_base.specs.declared.ids.LedgerId.{LedgerId}
 use Rattle.xl_lines.specs.declared.limits.Limits.{Limits}
 use Rattle.xl_lines.specs.Lines.{Line as TextLine, content, lines_of}
-use Rattle.xl_lines.specs.Rules.{Step, Told}
+use Rattle.xl_lines.specs.Rules.{Step}
 use Rattle.xl_lines.specs.Told.{step_at, step_within}
 use Rattle.xl_sched.specs.declared.line.Line.{Line}
 use Rattle.xl_sched.specs.declared.line.Line.TheVariants as line
 use Rattle.xl_sched.specs.declared.named.Named.{Named}
-use Rattle.xl_sched.specs.declared.refusal.SchedRefusal.{SchedRefusal}
 use Rattle.xl_sched.specs.Answers.{LineAnswer, passes, gives, refuses}
-use Rattle.xl_sched.specs.Names.{id_named, id_of, id_written, is_letter, is_name, ledger_id_of, name_of}
+use Rattle.xl_sched.specs.Names.{id_named, id_written, is_letter, is_name, ledger_id_of, name_of}
 use Rattle.xl_sched.specs.Tokens.{shown_byte, shown_token}
 use Rattle.xl_world.specs.declared.outcome.Outcome.{Outcome}
 use Rattle.xl_world.specs.declared.outcome.Outcome.TheVariants.{Full}
 use Rattle.xl_world.specs.Forks.{Fork, first_fork}
-use Rattle.xl_running.specs.Running.{Running, answer_in, at_first, declares, knows, limits, world_of}
+use Rattle.xl_running.specs.Running.{Running, answer_in, at_first, knows, limits, world_of}
 use Rattle.xl_running.specs.Texts.{id_text, named_text, newline, space}
 use Rattle.xl_running.proofs.Naming.{AnswerNames, AreNames, StandsForOne, reading_names, root_names}
-use Rattle.xl_replay.specs.Headlines.{Announced, Extends, HasLine, IsReport, Short, announced_line, names_of, outcomes_in, short_text, state_after, state_from, world_after}
+use Rattle.xl_replay.specs.Headlines.{Extends, HasLine, IsReport, Short, announced_line, names_of, outcomes_in, short_text, state_after, state_from, world_after}
 use Rattle.xl_base.specs.Ids.{IsId}
-use Rattle.xl_replay.specs.Readings.{IsFullLine, Says, SaysOneOf}
+use Rattle.xl_replay.specs.Readings.{IsFullLine, SaysOneOf}
 use Rattle.xl_replay.specs.Replays.{after_answer, after_line, report_of, rules}
 use Rattle.xl_replay.specs.Texts.{agreement_line, forged_line, outcome_line}
 use Rattle.xl_replay.proofs.Fronts.{agreement_other, short_other, spoken_other, unforged_line}

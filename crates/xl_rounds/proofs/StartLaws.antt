@@ -5,7 +5,7 @@ use Rattle.std.proofs.lemmas.Bool.{cond_both}
 use Rattle.xl_wire.specs.declared.proposal.Proposal.{Proposal}
 use Rattle.xl_ledger.specs.declared.header.Header.{Header}
 use Rattle.xl_rounds.specs.declared.placed.Placed.{Placed}
-use Rattle.xl_rounds.specs.declared.placed.Placed.TheVariants.{Position, Later}
+use Rattle.xl_rounds.specs.declared.placed.Placed.TheVariants.{Position}
 use Rattle.xl_rounds.specs.declared.refusal.RoundRefusal.{RoundRefusal}
 use Rattle.xl_rounds.specs.Rounds.{Round}
 use Rattle.xl_rounds.specs.Proposals.{is_ours, is_past, answer, with_answer, with_proposal, without_later, with_handed, later_of, with_all_handed}

@@ -5,8 +5,8 @@ use Rattle.std.specs.Option.{option_or}
 use Rattle.std.proofs.lemmas.Bool.{cond_both, and_parts, leb-true, ltb-true}
 use Rattle.std.proofs.lemmas.Bool.Decides.{nat_tests}
 use Rattle.xl_lists.specs.declared.refusal.ListRefusal.{ListRefusal}
-use Rattle.xl_lists.specs.Lists.{TrustedList, IsValid, is_on, is_outside, repeated_after, is_quorum, refusal_of, list_of}
-use Rattle.xl_base.specs.Refusals.{refused_if, unless_refused as list_unless}
+use Rattle.xl_lists.specs.Lists.{TrustedList, IsValid, is_on, refusal_of, list_of}
+use Rattle.xl_base.specs.Refusals.{unless_refused as list_unless}
 use Rattle.xl_lists.proofs.Rereading.{unrefused}
 use Rattle.xl_ledger.specs.Limits.{least_limit}
 use Rattle.xl_sched.specs.declared.refusal.SchedRefusal.{SchedRefusal}

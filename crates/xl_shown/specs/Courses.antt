@@ -7,7 +7,7 @@ use Rattle.xl_lists.specs.Lists.{TrustedList}
 use Rattle.xl_tags.specs.Rings.{Ring}
 use Rattle.xl_store.specs.Entries.{reply_of}
 use Rattle.xl_sched.specs.declared.refusal.SchedRefusal.TheVariants.{Header}
-use Rattle.xl_audit.specs.Auditing.{Step, goes_on, wrong, ended}
+use Rattle.xl_audit.specs.Auditing.{goes_on, wrong, ended}
 use Rattle.xl_audit.specs.Auditing as step
 use Rattle.xl_audit.specs.Judging.{IsReady, IsReady-prop, entries_of}
 use Rattle.xl_audit.specs.Leading.{Lead, leads, tells, lead}

@@ -3,15 +3,11 @@ use Rattle.std.proofs.Common.{◌≡◌, ℕ, List, Option, Result, Ok, Err, IfS
 use Rattle.std.specs.Io.KnownBytes.{append_known}
 use Rattle.xl_base.specs.Faults.{Rose}
 use Rattle.xl_io.specs.Sinks.{GrewByFront, GrewByLess}
-use Rattle.xl_lines.specs.declared.fault.Fault.{Fault}
-use Rattle.xl_lines.specs.declared.fault.Fault.TheVariants.{Read, Write, Memory}
-use Rattle.xl_lines.specs.declared.machine.Verdict.{Verdict}
-use Rattle.xl_lines.specs.Soon.{silence}
-use Rattle.xl_lines.specs.Rules.{Told, closes}
-use Rattle.xl_lines.specs.Running.{TellsAll}
+use Rattle.xl_lines.specs.declared.fault.Fault.TheVariants.{Write, Memory}
+use Rattle.xl_lines.specs.Rules.{Told}
 use Rattle.xl_texts.specs.Promises.{alone}
-use Rattle.xl_texts.specs.Streams.{Streams, streams}
-use Rattle.xl_texts.specs.Keeps.{Keeps, SaysAlone}
+use Rattle.xl_texts.specs.Streams.{streams}
+use Rattle.xl_texts.specs.Keeps.{SaysAlone}
 use Rattle.xl_texts.proofs.Keeping.{if_any, nothing_done, still_unended}
 
 -- memory ran out before a word was said

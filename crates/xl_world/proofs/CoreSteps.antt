@@ -36,7 +36,7 @@ use Rattle.xl_core.specs.Core.{Core, CoreReply, greeted_frames, given_for, core_
 use Rattle.xl_core.proofs.Frames.{hearing_either}
 use Rattle.xl_core.specs.Items.{is_own, body_in, frame_for, frame_of, header_body_at}
 use Rattle.xl_core.specs.Node as nodes
-use Rattle.xl_core.specs.Node.{Node, Event, Reply, Save, at_moment, own_validation, issued_unless_off, refusing_reply, issuing_reply, reply_with, timer_reply, timer_outcome, validates, validating_built, proposal_answer, placed_as, taken_reply, bytes_reply, happens, items_of, opened_node}
+use Rattle.xl_core.specs.Node.{Node, Event, Reply, Save, at_moment, own_validation, issued_unless_off, refusing_reply, issuing_reply, reply_with, timer_reply, timer_outcome, validates, validating_built, proposal_answer, placed_as, taken_reply, happens, items_of, opened_node}
 use Rattle.xl_core.specs.Issuing.Save.{Kept as AnsweredOk, Failed as AnsweredFailed}
 use Rattle.xl_core.specs.Queues.{after_taking, at_number, frames_in, waiting_at, with_items}
 use Rattle.xl_wire.specs.declared.body.Body.TheVariants as bodies

@@ -24,7 +24,7 @@ use Rattle.xl_core.specs.Deeds.{CountsFailure, Happens, save_told}
 use Rattle.xl_core.specs.Deeds.{answer_of as told_as}
 use Rattle.xl_core.specs.declared.core_answer.CoreAnswer.{CoreAnswer}
 use Rattle.xl_core.specs.Node as nodes
-use Rattle.xl_core.specs.Node.{Node, Reply, Save, TimerOutcome, heartbeat_outcome, asks_for, at_moment, next_header, built_outcome, chosen, timer_reply, built_reply, kind_outcome, happens, bytes_reply, is_kept, issued_unless_off, issuing_reply, own_validation, refusing_reply, reply_with, seen_of, switch_outcome, taken_reply, timer_outcome, validates, validating_built}
+use Rattle.xl_core.specs.Node.{Node, Reply, Save, TimerOutcome, heartbeat_outcome, at_moment, next_header, built_outcome, chosen, timer_reply, kind_outcome, happens, is_kept, issued_unless_off, issuing_reply, own_validation, refusing_reply, reply_with, seen_of, switch_outcome, taken_reply, timer_outcome, validates, validating_built}
 use Rattle.xl_core.specs.Issuing.Save.{Kept as AnsweredOk, Failed as AnsweredFailed}
 use Rattle.xl_core.specs.Timer.TimerOutcome.{Quiet, Ending}
 use Rattle.xl_core.specs.declared.timer_answer.TimerAnswer.{TimerAnswer}

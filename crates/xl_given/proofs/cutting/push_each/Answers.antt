@@ -3,7 +3,6 @@ use Rattle.std.proofs.lemmas.List.{drop-drop}
 use Rattle.xl_given.specs.Kept.{HasNoFirst, IsFirst}
 use Rattle.xl_given.proofs.CutOff.{noted_all, noted_next}
 use Rattle.xl_given.proofs.cutting.push_each.Goals as goal
-use Rattle.xl_given.proofs.cutting.push_each.Goals.{After-first_frame}
 
 -- the bytes that are left
 left : (bytes : List ℕ) (at : ℕ) → take (length bytes - at) (drop at bytes) ≡ drop at bytes

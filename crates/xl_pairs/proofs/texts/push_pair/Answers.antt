@@ -2,7 +2,7 @@ use Rattle.std.proofs.Common.{◌≡◌, ◌+◌, ◌++◌, ℕ, List, ap₂, su
 use Rattle.std.specs.Prelude.{OnOk}
 use Rattle.std.specs.String.{string_bytes}
 use Rattle.xl_lists.specs.Quorums.{overlap, liars_shared, bound_of}
-use Rattle.xl_pairs.specs.Texts.{pair_text, pair_line}
+use Rattle.xl_pairs.specs.Texts.{pair_text}
 use Rattle.xl_pairs.proofs.texts.push_pair.Goals as goal
 
 same_text : (i i' j j' shared shared' lying lying' sum sum' bound bound' : ℕ) → i ≡ i' → j ≡ j' → shared ≡ shared' → lying ≡ lying' → sum ≡ sum' → bound ≡ bound' → pair_text i j shared lying sum bound ≡ pair_text i' j' shared' lying' sum' bound'

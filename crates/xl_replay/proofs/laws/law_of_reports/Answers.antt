@@ -1,5 +1,3 @@
-use Rattle.xl_replay.specs.Headlines.{names_of, world_after}
-use Rattle.xl_replay.specs.Replays.{report_of}
 use Rattle.xl_replay.proofs.Headline.{whole_report, refused_report, as_written}
 use Rattle.xl_replay.proofs.laws.law_of_reports.Goals as goal
 

@@ -9,7 +9,6 @@ use Rattle.xl_replay.proofs.Headline.{whole_report, refused_report}
 use Rattle.xl_gen.proofs.Summing.{summarized}
 use Rattle.xl_validator.specs.Following.{HasFailed}
 use Rattle.xl_validator.specs.Validators.{IsKnown}
-use Rattle.xl_words.specs.declared.command.Telling.{Telling}
 use Rattle.xl_words.specs.Commands.{command_of, words_of}
 use Rattle.xl_top.specs.Commands.{telling_in, told_of}
 use Rattle.xl_top.specs.Texts.{WritesText, HasCause}

@@ -3,7 +3,7 @@ use Rattle.std.proofs.Common.{◌≡◌, ◌≤◌, ◌∙◌, true, List, ap, a
 use Rattle.std.specs.List.{list_all}
 use Rattle.xl_flags.specs.declared.amendment.Amendment.{Amendment}
 use Rattle.xl_flags.specs.Votes.{most_amendments}
-use Rattle.xl_flags.specs.Kept.{Kept, has_row, with_rows}
+use Rattle.xl_flags.specs.Kept.{Kept, has_row}
 use Rattle.xl_flags.proofs.Favoring.{all_rows}
 use Rattle.xl_flags.proofs.flag_votes.FlagVotes.name_all.Goals as goal
 
