@@ -27,6 +27,3 @@ pub use memory::MemFile;
 pub use system::SystemFile;
 pub use texts::read_text;
 pub use whole::WholeFile;
-
-#[cfg(test)]
-mod tests;
