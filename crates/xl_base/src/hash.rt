@@ -18,6 +18,3 @@ pub(crate) fn first_half(digest: &[u8; 64]) -> [u8; 32]
     half.copy_from_slice(&digest[..32]);
     half
 }
-
-#[cfg(test)]
-mod tests;

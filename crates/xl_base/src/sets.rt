@@ -34,6 +34,3 @@ pub fn empty_set() -> SetId
 {
     EMPTY_SET
 }
-
-#[cfg(test)]
-mod tests;

@@ -14,6 +14,3 @@ pub use board::Board;
 pub use boards::{Boards, NotOpened};
 pub use memory::{MemBoard, MemBoards};
 pub use path::FilePath;
-
-#[cfg(test)]
-mod tests;

@@ -14,6 +14,3 @@ mod rounding;
 pub use choice::{Choice, choose_close, needed};
 pub use resolution::next_resolution;
 pub use rounding::{effective, round_close};
-
-#[cfg(test)]
-mod tests;

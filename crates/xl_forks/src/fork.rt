@@ -114,6 +114,3 @@ fn shown(words: &WordsByMember<'_>, seq: Seq, a: &List, b: &List) -> u32
     }
     count
 }
-
-#[cfg(test)]
-mod tests;

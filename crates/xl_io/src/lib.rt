@@ -22,6 +22,3 @@ pub use sink::{Sink, Wrote, write_all};
 pub use source::memory::{MemSource, PlainSource};
 pub use source::standard::StdSource;
 pub use source::{Piece, Source};
-
-#[cfg(test)]
-mod tests;

@@ -42,6 +42,3 @@ pub use refusal::AddRefusal;
 pub use registry::{GREATEST_LIMIT, LEAST_LIMIT, Registry};
 pub use vote::Vote;
 pub use walk::Walk;
-
-#[cfg(test)]
-mod tests;

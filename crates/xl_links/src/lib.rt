@@ -25,6 +25,3 @@ pub use link::plain::PlainLink;
 pub use link::scripted::MemLink;
 pub use link::{Judgement, Link, LinkRead, Opening};
 pub use script::LinkScript;
-
-#[cfg(test)]
-mod tests;

@@ -11,6 +11,3 @@ mod queue;
 
 pub use broadcast::Broadcast;
 pub use queue::Queue;
-
-#[cfg(test)]
-mod tests;

@@ -8,6 +8,3 @@ mod plain;
 mod preferring;
 
 pub use plain::Plain;
-
-#[cfg(test)]
-mod tests;

@@ -16,6 +16,3 @@ pub use hearing::Hearing;
 pub use look::Look;
 pub use profile::Profile;
 pub use text::{push_status, push_unopened};
-
-#[cfg(test)]
-mod tests;

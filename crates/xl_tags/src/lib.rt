@@ -24,6 +24,3 @@ pub use opening::{is_sealed, open, open_as_sealed, open_raw};
 pub use pair_keys::pair_key;
 pub use refusal::TagRefusal;
 pub use sealing::seal;
-
-#[cfg(test)]
-mod tests;

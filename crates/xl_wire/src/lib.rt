@@ -41,6 +41,3 @@ pub use raw::Raw;
 pub use refusal::WireRefusal;
 pub use splitting::{Parted, split};
 pub use validation::Validation;
-
-#[cfg(test)]
-mod tests;

@@ -1,5 +1,5 @@
-use crate::{Choice, choose_close, effective, needed, next_resolution, round_close};
 use xl_base::{Secs, Seq};
+use xl_closetime::{Choice, choose_close, effective, needed, next_resolution, round_close};
 
 const LAST: Secs = Secs::MAX;
 

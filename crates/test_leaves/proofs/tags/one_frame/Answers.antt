@@ -3,7 +3,7 @@ use Rattle.std.proofs.lemmas.List.{take_all}
 use Rattle.xl_wire.specs.Heads.{parts}
 use Rattle.xl_wire.specs.Kinds.{span}
 use Rattle.xl_wire.specs.Raws.{SpellsRaw, raw_frame}
-use Rattle.xl_tags.proofs.tests.one_frame.Goals as goal
+use Rattle.test_leaves.proofs.tags.one_frame.Goals as goal
 
 pub returns-in-Whole : goal.returns-in-Whole
 returns-in-Whole c =

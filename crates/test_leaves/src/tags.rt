@@ -2,11 +2,11 @@ ghost use Rattle.std.specs.Prelude.{◌<◌, IsTrue, IfSome};
 ghost use Rattle.xl_wire.specs.Raws.{SpellsRaw, raw_frame};
 ghost use Rattle.xl_tags.specs.Sealing.{IsToSeal};
 
-use super::*;
 use hex::FromHex;
 use std::test::Fail;
 use xl_base::{LedgerId, NodeNo};
 use xl_lists::List;
+use xl_tags::{Keys, TagRefusal, hmac, open, pair_key, seal};
 use xl_wire::{Body, Frame, Parted, Raw, Validation, encode, split};
 
 /// A key, bytes, and their tag: RFC 4231's cases 1 to 4, 6 and 7.
@@ -77,25 +77,6 @@ fn pairs_have_keys(rt: HostRuntime) -> Result<(), Fail> {
         assert_eq!(rt; pair_key(member(a)?, member(b)?), key);
         assert_eq!(rt; Keys::of_schedule(member(a)?).get(member(b)?), Some(key));
     }
-    Ok(())
-}
-
-#[test]
-fn keeps_keys(rt: HostRuntime) -> Result<(), Fail> {
-    let (me, other) = (member(5)?, member(64)?);
-    let mut keys = Keys::new(me);
-    if other != keys.me() {
-        keys.put(other, [2; 32]);
-    }
-    let copy = keys.copy();
-    assert_eq!(rt; (copy.get(other), copy.get(me)), (Some([2; 32]), None));
-    let mut given = Keys::of_schedule(me);
-    if other != given.me() {
-        given.put(other, [3; 32]);
-    }
-    assert_eq!(rt; given.get(other), Some([3; 32]));
-    assert!(rt; given.has(member(64)?) && !given.has(me));
-    assert!(rt; keys.has(other) && keys.has_all(&List::new(&[5, 64], 2)?));
     Ok(())
 }
 
@@ -211,29 +192,5 @@ fn refuses_another_tag(rt: HostRuntime) -> Result<(), Fail> {
         Some(Err(refusal))
     );
     assert_eq!(rt; refusal.code(), 10);
-    Ok(())
-}
-
-/// Whether the bytes are one frame with the tag under its sender's key.
-fn carries_its_tag(keys: &Keys, bytes: &[u8]) -> bool {
-    match one_frame(bytes) {
-        Some(raw) => is_sealed(keys, &raw, bytes),
-        None => false,
-    }
-}
-
-/// A validation to 2, sealed by its sender.
-fn sealed_to_2(from: NodeNo) -> Result<[u8; 87], u32> {
-    let mut frame = validation(from.get(), 2);
-    try_seal(&put_keys(from, &[2])?, member(2)?, &mut frame);
-    Ok(frame)
-}
-
-#[test]
-fn tells_a_right_tag_of_anyone(rt: HostRuntime) -> Result<(), Fail> {
-    let keys = Keys::of_schedule(member(2)?);
-    let frame = sealed_to_2(member(60)?)?;
-    assert!(rt; carries_its_tag(&keys, &frame));
-    assert!(rt; !carries_its_tag(&keys, &flipped(frame, 86, 1)));
     Ok(())
 }

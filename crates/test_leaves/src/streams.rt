@@ -1,6 +1,6 @@
-use super::*;
 use std::io::{self, ErrorKind, Read, Write};
 use std::test::Fail;
+use xl_io::{Failed, Piece, Sink, Source, StdSink, StdSource, Wrote, write_all};
 
 #[test]
 fn a_reader_is_read_to_its_end(rt: HostRuntime) -> Result<(), Fail> {
@@ -73,60 +73,4 @@ fn interrupted_calls_are_made_again(rt: HostRuntime) {
         called: false,
     });
     assert!(rt; sink.write(b"de") == Wrote::Took(2));
-}
-
-#[test]
-fn scripted_calls_fail(rt: HostRuntime) -> Result<(), Fail> {
-    let alloc = rt.alloc();
-    let mut room = [0; 8];
-    let bytes = b"abcde".to_vec(alloc)?;
-    let mut source = MemSource::new(bytes, 3, [1, 3].to_vec(alloc)?);
-    for piece in [
-        Piece::Failed,
-        Piece::Got(3),
-        Piece::Failed,
-        Piece::Got(2),
-        Piece::End,
-    ] {
-        assert!(rt; source.read(&mut room) == piece);
-    }
-
-    let mut sink = MemSink::new(alloc, 2, [2].to_vec(alloc)?);
-    for wrote in [Wrote::Took(2), Wrote::Failed, Wrote::Took(2)] {
-        assert!(rt; sink.write(b"xyz") == wrote);
-    }
-    assert_eq!(rt; sink.held(), b"xyxy".as_slice());
-    Ok(())
-}
-
-#[test]
-fn plain_forms_never_fail(rt: HostRuntime) -> Result<(), Fail> {
-    let mut room = [0; 8];
-    let mut source = PlainSource::new(b"abcde".to_vec(rt.alloc())?, 4);
-    for piece in [Piece::Got(4), Piece::Got(1), Piece::End] {
-        assert!(rt; source.read(&mut room) == piece);
-    }
-    assert!(rt; write_all(&mut Discard, &room) == Ok(()));
-
-    let mut keeper = PlainKeeper::new(rt.alloc(), 2)?;
-    for seq in [3, 1] {
-        assert!(rt; keeper.save(seq) == Ok(()));
-        assert!(rt; keeper.load() == Ok(seq));
-    }
-    assert_eq!(rt; keeper.faults(), 0);
-    assert!(rt; keeper.saves() == Some([3, 1].as_slice()));
-    Ok(())
-}
-
-#[test]
-fn a_failed_save_leaves_what_the_script_says(rt: HostRuntime) -> Result<(), Fail> {
-    let alloc = rt.alloc();
-    let mut keeper = MemKeeper::new(alloc, 2, [3].to_vec(alloc)?, [3].to_vec(alloc)?)?;
-    assert!(rt; keeper.load() == Ok(0));
-    assert!(rt; keeper.save(5) == Ok(()));
-    assert!(rt; keeper.save(7) == Err(Failed));
-    assert!(rt; keeper.load() == Ok(7));
-    assert_eq!(rt; keeper.faults(), 1);
-    assert!(rt; keeper.saves() == Some([5, 7].as_slice()));
-    Ok(())
 }

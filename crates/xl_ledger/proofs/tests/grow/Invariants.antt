@@ -1,5 +1,0 @@
-use Rattle.std.proofs.Common.{◌<◌, ◌≤◌, length}
-use Rattle.xl_ledger.proofs.tests.grow.Given as goal
-
-abbrev pub invariant-loop : goal.invariant-loop
-invariant-loop l = (l.last < length l.registry.headers) × (length l.fn.registry.headers ≤ length l.registry.headers)
