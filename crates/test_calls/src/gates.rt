@@ -2,8 +2,7 @@ ghost use Rattle.std.specs.Prelude.{IfSome, IsSome};
 ghost use Rattle.xl_tags.specs.Rings.{key_of};
 ghost use Rattle.xl_store.specs.Stores.{start_of, IsOf};
 
-use crate::fixtures::{FRAME, Stored, stored};
-use crate::sessions::counted;
+use crate::fixtures::{FRAME, Stored, frames_and_greetings, stored};
 use std::alloc::Global;
 use std::sync::Wait;
 use std::sync::atomic::{AtomicU64, Ordering};
@@ -113,6 +112,17 @@ fn hold_two<W: Threads + Wait + Sync>(
 /// A link that has one frame to give.
 fn link(alloc: Global) -> Result<MemLink, Fail> {
     Ok(MemLink::new(alloc, FRAME.to_vec(alloc)?, 78, LinkScript::new(alloc), 0)?)
+}
+
+/// How many frames and greetings a closed store's journal has.
+fn counted(store: Stored, pass: Pass) -> Option<(u64, u64)>
+    requires pass { IsOf store pass }
+{
+    if pass.is_whole() {
+        Some(frames_and_greetings(store.close(pass).left?.entries))
+    } else {
+        None
+    }
 }
 
 /// How many frames and greetings two sessions make, each of which ends with its link.

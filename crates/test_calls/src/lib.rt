@@ -1,19 +1,12 @@
-//! Sessions of xl_peers and a door of xl_door, from one crate at the top. What no contract says of them is shown here:
-//! that they succeed if memory is ample, that a gate keeps no turn, that a second is waited, and what faults of links come
-//! to. It runs the example in the head of xl_world, too.
+//! Two sessions of xl_peers behind one gate, from a crate at the top: while one waits there, it keeps no turn. It runs the example in the
+//! head of xl_world, too.
 //!
 //! It has tests alone, and no call of its own.
 #![tactic(auto)]
 
 #[cfg(test)]
-mod doors;
-#[cfg(test)]
 mod fixtures;
 #[cfg(test)]
 mod gates;
-#[cfg(test)]
-mod rolls;
-#[cfg(test)]
-mod sessions;
 #[cfg(test)]
 mod worlds;

@@ -125,7 +125,7 @@ fn is_to_seal(keys: &Keys, to: NodeNo, bytes: &[u8]) -> bool
     ensures { IsTrue result → IsToSeal keys.now to bytes.now }
 {
     match one_frame(bytes) {
-        Some(raw) => raw.from == keys.me().get() && raw.to == to.get() && keys.knows(to.get()),
+        Some(raw) => raw.from == keys.me().get() && raw.to == to.get() && keys.has(to),
         None => false,
     }
 }

@@ -1,13 +1,10 @@
-// What is written comes, and what can't be used is refused.
-use crate::peers::{
-    FRAME, Peers, assert_each, byte_at, clock_of, dialler, front, gives, link_of, listener, opens,
-    takes, takes_front,
-};
+// What is written comes.
+use crate::peers::{FRAME, Peers, assert_each, byte_at, clock_of, dialler, front, gives, listener, opens, takes, takes_front};
 use std::alloc::Global;
 use std::test::Fail;
 use std::thread;
 use xl_io::Wrote;
-use xl_links::{Clock, Link, LinkRead, Opening, Way};
+use xl_links::{Clock, Link, LinkRead, Opening};
 
 #[test]
 fn bytes_pass_over_loopback(rt: HostRuntime) -> Result<(), Fail> {
@@ -161,31 +158,5 @@ fn a_read_gathers_what_comes_soon(rt: HostRuntime) -> Result<(), Fail> {
     );
     assert_each(&rt, &steps);
     assert!(rt; got == LinkRead::Got(6) && room == *b"abcdef\0\0");
-    Ok(())
-}
-
-/// Whether an address is refused, to be dialled and to be listened at.
-fn refuses(rt: &HostRuntime, text: &str) -> Result<bool, Fail> {
-    let alloc = rt.alloc();
-    Ok(
-        link_of(rt, Way::Dial(text.to_string(alloc)?))?.is_none()
-            && link_of(rt, Way::Listen(text.to_string(alloc)?))?.is_none(),
-    )
-}
-
-/// Whether an address at which a link listens is refused to another that would listen there.
-fn refuses_again(rt: &HostRuntime) -> Result<bool, Fail> {
-    let listening = listener(rt)?;
-    let address = listening.listens_at().ok_or("no address")?;
-    let way = Way::Listen(address.to_string(rt.alloc())?);
-    Ok(link_of(rt, way)?.is_none())
-}
-
-#[test]
-fn addresses_that_cannot_be_used_are_refused(rt: HostRuntime) -> Result<(), Fail> {
-    for text in ["", "localhost:5005", "127.0.0.1", "127.0.0.1:65536"] {
-        assert!(rt; refuses(&rt, text)?, "{text}");
-    }
-    assert!(rt; refuses_again(&rt)?);
     Ok(())
 }

@@ -1,5 +1,0 @@
-use Rattle.xl_store.specs.Stores.{IsOf}
-use Rattle.test_calls.proofs.sessions.submit_all.Given as goal
-
-abbrev pub invariant-loop-number : goal.invariant-loop-number
-invariant-loop-number g l = IsOf l.store l.pass
