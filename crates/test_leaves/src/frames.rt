@@ -1,6 +1,8 @@
 use std::test::Fail;
 use xl_base::LedgerId;
-use xl_wire::{Body, Decoded, Feed, Frame, Next, Parted, Validation, WireRefusal, decode, encode, split};
+use xl_wire::{
+    Body, Decoded, Feed, Frame, Next, Parted, Validation, WireRefusal, decode, encode, split,
+};
 
 const SAID: Validation = Validation {
     id: LedgerId([7; 32]),

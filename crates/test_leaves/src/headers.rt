@@ -1,7 +1,7 @@
 use hex::FromHex;
 use std::test::Fail;
 use xl_base::LedgerId;
-use xl_ledger::{header_bytes, id_of, read_header};
+use xl_ledger::{Header, LedgerNo, Registry, header_bytes, id_of, read_header, root_header};
 
 /// The first header of the real network, and its id.
 const GENESIS: &str =
@@ -19,5 +19,30 @@ fn reads_writes_and_names_the_first_header(rt: HostRuntime) -> Result<(), Fail> 
     );
     assert_eq!(rt; header_bytes(&header), bytes);
     assert_eq!(rt; id_of(&header), LedgerId(<[u8; 32]>::from_hex(GENESIS_ID)?));
+    Ok(())
+}
+
+/// A ledger that follows another.
+fn child(parent: LedgerId, seq: u32, mark: u8) -> Header {
+    Header {
+        seq,
+        parent,
+        tx_hash: [mark; 32],
+        close: 30,
+        ..root_header()
+    }
+}
+
+/// The example in the head of xl_ledger.
+#[test]
+fn walks_along_two_chains(rt: HostRuntime) -> Result<(), Fail> {
+    let mut registry = Registry::open(rt.alloc(), 4)?;
+    let a = child(LedgerId([0; 32]), 1, 1);
+    let fork = registry.add(&a)?;
+    let left = registry.add(&child(id_of(&a), 2, 2))?;
+    let right = registry.add(&child(id_of(&a), 2, 3))?;
+    let mut walk = registry.walk();
+    assert_eq!(rt; walk.common(left, right), fork);
+    assert_eq!(rt; walk.ancestor(right, 0), LedgerNo::root());
     Ok(())
 }

@@ -1,5 +1,8 @@
 // What is written comes.
-use crate::peers::{FRAME, Peers, assert_each, byte_at, clock_of, dialler, front, gives, listener, opens, takes, takes_front};
+use crate::peers::{
+    FRAME, Peers, assert_each, byte_at, clock_of, dialler, front, gives, listener, opens, takes,
+    takes_front,
+};
 use std::alloc::Global;
 use std::test::Fail;
 use std::thread;
