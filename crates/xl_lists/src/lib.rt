@@ -27,7 +27,7 @@ mod said;
 
 pub use laws::law_of_agreement;
 pub use list::List;
-pub use quorum::{bound, default_quorum, enough, overlap, slack};
+pub use quorum::{bound, default_quorum, enough, liars_shared, overlap, slack};
 pub use refusal::ListRefusal;
 pub use report::Report;
 pub use said::SaidLedger;

@@ -23,6 +23,15 @@ pub fn overlap(a: &List, b: &List) -> u32
     a.marks().shared(b.marks()).count()
 }
 
+/// How many members of both lists are among the liars. One that is named twice counts once.
+pub fn liars_shared(a: &List, b: &List, liars: &[NodeNo]) -> u32
+    ensures value { result ≡ liars_shared_of liars.now a.now.members b.now.members }
+    ensures within { result ≤ length a.now.members }
+{
+    let liars = Marks::of(liars);
+    a.marks().shared(b.marks()).shared(liars).count()
+}
+
 /// What two quorums together must exceed, so that they share a member that is no liar: both lists' sizes, minus the
 /// overlap, plus the liars in the overlap.
 pub fn bound(a: &List, b: &List, liars: &[NodeNo]) -> u32
@@ -45,11 +54,4 @@ pub fn slack(a: &List, b: &List, liars: &[NodeNo]) -> i64
     ensures { result ≡ pos (a.now.quorum + b.now.quorum) -ℤ pos (bound_of liars.now a.now b.now) }
 {
     i64::from(a.quorum() + b.quorum()) - i64::from(bound(a, b, liars))
-}
-
-fn liars_shared(a: &List, b: &List, liars: &[NodeNo]) -> u32
-    ensures { result ≡ liars_shared_of liars.now a.now.members b.now.members }
-{
-    let liars = Marks::of(liars);
-    a.marks().shared(b.marks()).shared(liars).count()
 }

@@ -3,7 +3,6 @@ ghost use Rattle.std.specs.Prelude.{◌≡◌, ◌≤◌, ◌++◌, ◌-◌, OnO
 ghost use Rattle.std.specs.List.{flat_map};
 ghost use Rattle.std.specs.String.{string_bytes};
 ghost use Rattle.xl_base.specs.Members.{greatest_node_no};
-ghost use Rattle.xl_lists.specs.Quorums.{liars_shared as liars_shared_of};
 ghost use Rattle.xl_pairs.specs.Texts.{enough_text, pair_numbers, pair_text, pair_line};
 ghost use Rattle.xl_pairs.specs.Texts.{yes_text, paper_numbers, paper_text, paper_line};
 ghost use Rattle.xl_pairs.specs.Texts.{papers_of, list_in, pair_with, pairs_of, pair_lines, up_from};
@@ -11,7 +10,7 @@ ghost use Rattle.xl_pairs.specs.Texts.{papers_of, list_in, pair_with, pairs_of, 
 use crate::declared::{Node, list_in};
 use std::fmt::Write;
 use xl_base::{GREATEST_NODE_NO, NodeNo, OutOfMemory};
-use xl_lists::{List, bound, overlap};
+use xl_lists::{List, bound, liars_shared, overlap};
 
 /// The pairs of nodes, by rising numbers.
 pub fn push_pairs(text: &mut String, liars: &[NodeNo], nodes: &[Node]) -> Result<(), OutOfMemory>
@@ -133,15 +132,6 @@ fn enough_text(enough: bool) -> &'static str
     ensures { result.now ≡ enough_text enough }
 {
     if enough { "ok" } else { "short" }
-}
-
-/// How many members that two lists share are liars.
-fn liars_shared(a: &List, b: &List, liars: &[NodeNo]) -> u32
-    ensures value { result ≡ liars_shared_of liars.now a.now.members b.now.members }
-    ensures most { result ≤ 64 }
-{
-    let sizes = a.len() + b.len();
-    bound(a, b, liars) + overlap(a, b) - sizes
 }
 
 /// Both conditions of the paper on two different nodes.
