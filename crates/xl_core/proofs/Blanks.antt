@@ -1,8 +1,7 @@
 -- Frames whose tags are left blank: with them a drain is what it is with the sealed ones.
-use Rattle.std.proofs.Common.{◌≡◌, ℕ, zero, suc, ◌+◌, ◌-◌, Bool, true, false, List, [], ◌∷◌, ◌++◌, length, take, drop, map, replicate, refl, arith, ap, sym, ◌∙◌, subst, Option, Some, None, append-nil}
+use Rattle.std.proofs.Common.{◌≡◌, ℕ, zero, suc, ◌+◌, ◌-◌, Bool, true, false, List, [], ◌∷◌, ◌++◌, length, take, drop, map, replicate, refl, ap, sym, ◌∙◌, subst, Option, Some, None}
 use Rattle.std.specs.Prelude.{◌↔◌, count_by, nat_le, option_map, unwrap_or, if◌then◌else◌}
 use Rattle.std.specs.Option.{is_none, option_and_then}
-use Rattle.std.proofs.lemmas.List.{length-append, take_at}
 use Rattle.xl_lists.proofs.Counting.{count_by-cons}
 use Rattle.xl_queues.specs.Queues.{Backlog}
 use Rattle.xl_wire.specs.Frames.{raw_of}
@@ -13,6 +12,7 @@ use Rattle.xl_tags.specs.Macs.{mac}
 use Rattle.xl_tags.specs.Rings.{Ring, key_of, no_keys}
 use Rattle.xl_tags.specs.Sealing.{before_tag, sealed, with_tag}
 use Rattle.xl_tags.proofs.RingLaws.{key_of-no_keys}
+use Rattle.xl_tags.proofs.SealingLaws.{before_last, tag_behind}
 use Rattle.xl_core.specs.Core.{Core, all_frames, after_drain, given_for, greeted_frames}
 use Rattle.xl_core.specs.Draining.{node_for}
 use Rattle.xl_core.specs.Greetings.{further_at, greeting_at, greeting_frames, yet_to_hand}
@@ -37,12 +37,6 @@ keyless me to = key_of-no_keys me to
 -- without a key a frame stays as it is
 pub left_blank : (me : ℕ) (f : RawFrame) → sealed (record { me = me; keys = replicate 64 None }) f ≡ f
 left_blank me f = ap (λ (o : Option (List ℕ)). with_tag f (unwrap_or (option_map (λ key. mac key (before_tag (raw_bytes f))) o) f.tag)) (keyless me f.to)
-
-tag_behind : (f : RawFrame) (tag : List ℕ) → raw_bytes (with_tag f []) ++ tag ≡ raw_bytes (with_tag f tag)
-tag_behind f tag = ap (λ (x : List ℕ). take 14 (raw_bytes f) ++ (x ++ tag)) (append-nil f.body)
-
-before_last : (front last : List ℕ) → length last ≡ 32 → before_tag (front ++ last) ≡ front
-before_last front last long = take_at front last (length (front ++ last) - 32) (omega (arith, length-append front last))
 
 -- one with another tag is blanked to that with zeros
 pub blanked_tag : (f : RawFrame) (tag : List ℕ) → length tag ≡ 32 → without_tag (raw_bytes (with_tag f tag)) ≡ raw_bytes (with_tag f (replicate 32 0))

@@ -9,11 +9,11 @@ use Rattle.xl_tags.specs.Sealing.{before_tag, tag_by, with_tag, sealed}
 use Rattle.xl_wire.specs.declared.lengths.TheConstants.{HEAD}
 
 -- a frame's spelling is all but the tag, and the tag
-parted : (f : RawFrame) (tag : List ℕ) → raw_bytes (with_tag f []) ++ tag ≡ raw_bytes (with_tag f tag)
-parted f tag = ap (λ (x : List ℕ). take HEAD (raw_bytes f) ++ (x ++ tag)) (append-nil f.body)
+pub tag_behind : (f : RawFrame) (tag : List ℕ) → raw_bytes (with_tag f []) ++ tag ≡ raw_bytes (with_tag f tag)
+tag_behind f tag = ap (λ (x : List ℕ). take HEAD (raw_bytes f) ++ (x ++ tag)) (append-nil f.body)
 
 -- bytes that end with 32 others
-before_last : (front last : List ℕ) → length last ≡ 32 → before_tag (front ++ last) ≡ front
+pub before_last : (front last : List ℕ) → length last ≡ 32 → before_tag (front ++ last) ≡ front
 before_last front last long = take_at front last (length (front ++ last) - 32) (omega (arith, length-append front last))
 
 -- one frame has these bytes
@@ -25,8 +25,8 @@ pub SpellsRaw-with_tag : (f : RawFrame) (tag old new : List ℕ) → SpellsRaw f
     → SpellsRaw (with_tag f tag) new
 SpellsRaw-with_tag f tag old new s long e = record {
   frame = record { lawful = s.frame.lawful; from = s.frame.from; to = s.frame.to; tag = long };
-  spelling = e ∙ ap (λ (x : List ℕ). before_tag x ++ tag) (s.spelling ∙ sym (parted f f.tag))
-      ∙ ap (λ (x : List ℕ). x ++ tag) (before_last (raw_bytes (with_tag f [])) f.tag s.frame.tag) ∙ parted f tag;
+  spelling = e ∙ ap (λ (x : List ℕ). before_tag x ++ tag) (s.spelling ∙ sym (tag_behind f f.tag))
+      ∙ ap (λ (x : List ℕ). x ++ tag) (before_last (raw_bytes (with_tag f [])) f.tag s.frame.tag) ∙ tag_behind f tag;
 }
 
 pub sealed_as : (ring : Ring) (f g : RawFrame) (tag old new : List ℕ) → SpellsRaw f old → SpellsRaw g old
@@ -44,5 +44,5 @@ before_tag-sealed tag old new long is = ap before_tag is ∙ before_last (before
 pub before_tag-with_tag : (f : RawFrame) (tag : List ℕ) → IsRaw f → length tag ≡ 32
     → before_tag (raw_bytes (with_tag f tag)) ≡ before_tag (raw_bytes f)
 before_tag-with_tag f tag ok long =
-    ap before_tag (sym (parted f tag)) ∙ before_last (raw_bytes (with_tag f [])) tag long
-    ∙ sym (before_last (raw_bytes (with_tag f [])) f.tag ok.tag) ∙ ap before_tag (parted f f.tag)
+    ap before_tag (sym (tag_behind f tag)) ∙ before_last (raw_bytes (with_tag f [])) tag long
+    ∙ sym (before_last (raw_bytes (with_tag f [])) f.tag ok.tag) ∙ ap before_tag (tag_behind f f.tag)

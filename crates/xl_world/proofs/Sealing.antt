@@ -1,5 +1,5 @@
 -- A sent frame carries the tag under the key of its two numbers, whatever tag is kept of it.
-use Rattle.std.proofs.Common.{◌≡◌, ◌≢◌, ℕ, ◌-◌, ◌<◌, ◌≤◌, List, [], ◌∷◌, ◌++◌, length, take, drop, map, replicate, refl, arith, ap, sym, ◌∙◌, subst, Bool, true, false, inl, inr, Option, Some, None, append-nil}
+use Rattle.std.proofs.Common.{◌≡◌, ◌≢◌, ℕ, ◌-◌, ◌<◌, ◌≤◌, List, [], ◌∷◌, ◌++◌, length, take, drop, map, replicate, refl, arith, ap, sym, ◌∙◌, subst, Bool, true, false, inl, inr, Option, Some, None}
 use Rattle.std.specs.Prelude.{◌==◌, All, IfSome, not, option_map, unwrap_or}
 use Rattle.std.specs.Str.{bytes_eq}
 use Rattle.std.proofs.lemmas.Bool.{cases_Bool, cases_eq, cases_lt, cond_both}
@@ -18,7 +18,7 @@ use Rattle.xl_tags.specs.Sealing.{as_sealed, before_tag, sealed, with_tag}
 use Rattle.xl_tags.proofs.OpeningLaws.{IsRaw-as_sealed}
 use Rattle.xl_tags.proofs.PairKeyLaws.{pair_key_of-comm}
 use Rattle.xl_tags.proofs.RingLaws.{key_at}
-use Rattle.xl_tags.proofs.SealingLaws.{before_tag-with_tag}
+use Rattle.xl_tags.proofs.SealingLaws.{before_last, before_tag-with_tag, tag_behind}
 use Rattle.xl_core.specs.Hearing.{bytes_as_sealed}
 use Rattle.xl_core.specs.Items.{frame_for}
 use Rattle.xl_core.specs.Node.{Node}
@@ -78,13 +78,6 @@ sent_so from to (f ∷ fs) all =
     ∙ ap (λ (bytes : List ℕ). sent_from from to bytes ∷ map (sent_from from to) fs) (All-head (IsFor to) f fs all)
 
 -- WHAT IS KEPT
-
--- a frame is all but its tag, and its tag
-tag_behind : (f : RawFrame) (tag : List ℕ) → raw_bytes (with_tag f []) ++ tag ≡ raw_bytes (with_tag f tag)
-tag_behind f tag = ap (λ (x : List ℕ). take 14 (raw_bytes f) ++ (x ++ tag)) (append-nil f.body)
-
-before_last : (front last : List ℕ) → length last ≡ 32 → before_tag (front ++ last) ≡ front
-before_last front last long = take_at front last (length (front ++ last) - 32) (omega (arith, length-append front last))
 
 pub parted : (f : RawFrame) (tag : List ℕ) → IsRaw f → raw_bytes (with_tag f tag) ≡ before_tag (raw_bytes f) ++ tag
 parted f tag ok =
