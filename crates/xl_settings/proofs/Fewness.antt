@@ -8,9 +8,9 @@ use Rattle.std.proofs.lemmas.Map.Steps.{length-le_from_distinct_below}
 use Rattle.std.proofs.lemmas.Option.{same_Some}
 use Rattle.toml.specs.Data.{Data, Members, as_table, get_member}
 use Rattle.xl_publish.specs.Sizes.{greatest_publisher}
-use Rattle.xl_settings.specs.declared.entry.Entry.TheVariants as Entry
-use Rattle.xl_settings.specs.declared.key_name.KeyName.TheVariants as key
-use Rattle.xl_settings.specs.declared.publishers.PublisherKey.{PublisherKey}
+use Rattle.xl_settings.specs.declared.keys.entry.Entry.TheVariants as Entry
+use Rattle.xl_settings.specs.declared.keys.key_name.KeyName.TheVariants as key
+use Rattle.xl_settings.specs.declared.trusting.publishers.PublisherKey.{PublisherKey}
 use Rattle.xl_settings.specs.Different.{are_different}
 use Rattle.xl_settings.specs.Keys.{has_keys_only}
 use Rattle.xl_settings.specs.Peers.{key_at}

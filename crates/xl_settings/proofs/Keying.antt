@@ -1,7 +1,7 @@
 -- Publishers of different numbers, and their keys.
 use Rattle.std.proofs.Common.{◌≡◌, ℕ, Bool, true, false, List, [], ◌∷◌, ◌||◌, map, nat_eq, refl, ap}
 use Rattle.std.specs.List.{list_any}
-use Rattle.xl_settings.specs.declared.publishers.PublisherKey.{PublisherKey}
+use Rattle.xl_settings.specs.declared.trusting.publishers.PublisherKey.{PublisherKey}
 use Rattle.xl_settings.specs.Different.{are_different}
 use Rattle.xl_settings.specs.Publishers.{publisher_number}
 

@@ -3,7 +3,7 @@ use Rattle.std.proofs.Common.{◌≡◌, ◌==◌, ◌||◌, ℕ, Bool, true, fa
 use Rattle.std.specs.List.{list_any}
 use Rattle.xl_settings.specs.Different.{are_different}
 use Rattle.xl_settings.specs.Peers.{is_peer, setting_of}
-use Rattle.xl_settings.specs.declared.peers.Peer.{Peer}
+use Rattle.xl_settings.specs.declared.meeting.peers.Peer.{Peer}
 
 -- a number is a peer's of the code exactly where it is one's of what they stand for
 pub is_peer_setting : (peers : List Peer) (number : ℕ)

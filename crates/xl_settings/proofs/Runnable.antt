@@ -7,16 +7,16 @@ use Rattle.xl_ledger.specs.Limits.{greatest_limit, least_limit}
 use Rattle.xl_lists.specs.Lists.{TrustedList}
 use Rattle.xl_publish.specs.Forces.{list_at}
 use Rattle.xl_settings.specs.declared.fault.SettingsFault.{SettingsFault}
-use Rattle.xl_settings.specs.declared.key_name.KeyName.{KeyName}
-use Rattle.xl_settings.specs.declared.key_name.KeyName.TheVariants as key
+use Rattle.xl_settings.specs.declared.keys.key_name.KeyName.{KeyName}
+use Rattle.xl_settings.specs.declared.keys.key_name.KeyName.TheVariants as key
 use Rattle.xl_settings.specs.Limits.{most_bytes, usual_limit, usual_turns, greatest_turns, usual_heartbeat_ms, least_heartbeat_ms, greatest_heartbeat_ms, greatest_run_ms, usual_speak, greatest_speak}
 use Rattle.xl_settings.specs.declared.refusal.SettingsRefusal.{SettingsRefusal}
 use Rattle.xl_settings.specs.declared.refusal.SettingsRefusal.TheVariants.{Length}
 use Rattle.xl_settings.specs.declared.settings.Settings.{Settings}
-use Rattle.xl_settings.specs.declared.stated.Stated.{Stated}
-use Rattle.xl_settings.specs.declared.stated.Stated.TheVariants.{Listed, Published}
-use Rattle.xl_settings.specs.declared.taken.Taken.{Taken}
-use Rattle.xl_settings.specs.declared.trust.Trust.{Trust}
+use Rattle.xl_settings.specs.declared.trusting.stated.Stated.{Stated}
+use Rattle.xl_settings.specs.declared.trusting.stated.Stated.TheVariants.{Listed, Published}
+use Rattle.xl_settings.specs.declared.trusting.taken.Taken.{Taken}
+use Rattle.xl_settings.specs.declared.trusting.trust.Trust.{Trust}
 use Rattle.xl_settings.specs.Answers.{GivenMemory}
 use Rattle.xl_settings.specs.Keys.{least_unknown}
 use Rattle.xl_settings.specs.Lists.{members_at, met_by, published, stated_at, trust_of}

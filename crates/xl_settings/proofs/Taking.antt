@@ -13,8 +13,8 @@ use Rattle.xl_publish.specs.declared.refusal.RollRefusal.{RollRefusal}
 use Rattle.xl_publish.specs.Fields.{publisher_in}
 use Rattle.xl_publish.specs.Refusing.{refusal_of}
 use Rattle.xl_publish.specs.Registers.{Register, after_roll, after_took, answer_to, kept_of, took_of}
-use Rattle.xl_settings.specs.declared.publishers.PublisherKey.{PublisherKey}
-use Rattle.xl_settings.specs.declared.taken.Taken.{Taken}
+use Rattle.xl_settings.specs.declared.trusting.publishers.PublisherKey.{PublisherKey}
+use Rattle.xl_settings.specs.declared.trusting.taken.Taken.{Taken}
 use Rattle.xl_settings.specs.Publishers.{after_rolls, is_taken, keyed, register_after}
 
 -- ---- a roll leaves the keys

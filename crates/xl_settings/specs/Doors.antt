@@ -5,7 +5,7 @@ use Rattle.std.specs.Option.{option_and_then}
 use Rattle.std.specs.List.{list_all}
 use Rattle.std.specs.Str.{bytes_eq}
 use Rattle.toml.specs.Data.{Data, Members, as_str}
-use Rattle.xl_settings.specs.declared.key_name.KeyName.TheVariants as key
+use Rattle.xl_settings.specs.declared.keys.key_name.KeyName.TheVariants as key
 use Rattle.xl_settings.specs.Values.{at, or_default}
 
 abbrev pub is_digit : ℕ → Bool

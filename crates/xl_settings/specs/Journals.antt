@@ -1,7 +1,7 @@
 -- Whether the journal is written, and where. Source: this project's own format.
 use Rattle.std.specs.Prelude.{ℕ, Bool, true, false, List, Option, Some, None, is_some, not}
 use Rattle.toml.specs.Data.{Data, Members, as_bool}
-use Rattle.xl_settings.specs.declared.key_name.KeyName.TheVariants as key
+use Rattle.xl_settings.specs.declared.keys.key_name.KeyName.TheVariants as key
 use Rattle.xl_settings.specs.Limits.{usual_journal_bytes, greatest_journal_bytes}
 use Rattle.xl_settings.specs.Paths.{path_if}
 use Rattle.xl_settings.specs.Values.{at, whole, or_default}

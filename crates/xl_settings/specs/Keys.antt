@@ -5,10 +5,10 @@ use Rattle.std.specs.Ordering.{is_lt, nat_cmp}
 use Rattle.std.specs.Cmp.Lexicographic.{slice_cmp}
 use Rattle.std.specs.Str.{bytes_eq}
 use Rattle.toml.specs.Data.{Members, no_members, member}
-use Rattle.xl_settings.specs.declared.entry.Entry.{Entry}
-use Rattle.xl_settings.specs.declared.entry.Entry.TheVariants.{Peer, Publisher}
-use Rattle.xl_settings.specs.declared.key_name.KeyName.{KeyName}
-use Rattle.xl_settings.specs.declared.key_name.KeyName.TheVariants as key
+use Rattle.xl_settings.specs.declared.keys.entry.Entry.{Entry}
+use Rattle.xl_settings.specs.declared.keys.entry.Entry.TheVariants.{Peer, Publisher}
+use Rattle.xl_settings.specs.declared.keys.key_name.KeyName.{KeyName}
+use Rattle.xl_settings.specs.declared.keys.key_name.KeyName.TheVariants as key
 
 -- how a key is written
 abbrev pub text_of : KeyName → List ℕ

@@ -5,11 +5,11 @@ use Rattle.std.specs.Result.{is_ok, result_ok}
 use Rattle.toml.specs.Data.{Data, Members}
 use Rattle.xl_lists.specs.Lists.{TrustedList, list_of}
 use Rattle.xl_publish.specs.Forces.{list_at}
-use Rattle.xl_settings.specs.declared.key_name.KeyName.TheVariants as key
-use Rattle.xl_settings.specs.declared.stated.Stated.{Stated}
-use Rattle.xl_settings.specs.declared.stated.Stated.TheVariants.{Listed, Published}
-use Rattle.xl_settings.specs.declared.taken.Taken.{Taken}
-use Rattle.xl_settings.specs.declared.trust.Trust.{Trust}
+use Rattle.xl_settings.specs.declared.keys.key_name.KeyName.TheVariants as key
+use Rattle.xl_settings.specs.declared.trusting.stated.Stated.{Stated}
+use Rattle.xl_settings.specs.declared.trusting.stated.Stated.TheVariants.{Listed, Published}
+use Rattle.xl_settings.specs.declared.trusting.taken.Taken.{Taken}
+use Rattle.xl_settings.specs.declared.trusting.trust.Trust.{Trust}
 use Rattle.xl_settings.specs.Publishers.{has_publishers, named_by}
 use Rattle.xl_settings.specs.Values.{at, number_in, all_read, array_in}
 

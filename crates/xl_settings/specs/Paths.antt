@@ -2,7 +2,7 @@
 use Rattle.std.specs.Prelude.{ℕ, Bool, true, false, List, [], ◌∷◌, Option, Some, None}
 use Rattle.std.specs.Option.{option_and_then}
 use Rattle.toml.specs.Data.{Data, Members, as_str}
-use Rattle.xl_settings.specs.declared.key_name.KeyName.TheVariants as key
+use Rattle.xl_settings.specs.declared.keys.key_name.KeyName.TheVariants as key
 use Rattle.xl_settings.specs.Publishers.{has_publishers}
 use Rattle.xl_settings.specs.Values.{at, or_default}
 

@@ -5,8 +5,8 @@ use Rattle.std.specs.Option.{option_and_then}
 use Rattle.toml.specs.Data.{Data, Members, get_member, as_str, as_table}
 use Rattle.xl_base.specs.Members.{greatest_node_no}
 use Rattle.xl_links.specs.Ways.{Reach, dialled_at, listened_at, reach_of}
-use Rattle.xl_settings.specs.declared.entry.Entry.TheVariants as Entry
-use Rattle.xl_settings.specs.declared.peers.Peer.{Peer}
+use Rattle.xl_settings.specs.declared.keys.entry.Entry.TheVariants as Entry
+use Rattle.xl_settings.specs.declared.meeting.peers.Peer.{Peer}
 use Rattle.xl_settings.specs.Different.{are_different}
 use Rattle.xl_settings.specs.Keys.{has_keys_only}
 use Rattle.xl_settings.specs.Submits.{bytes_in}

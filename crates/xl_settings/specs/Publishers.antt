@@ -10,10 +10,10 @@ use Rattle.xl_publish.specs.Sizes.{greatest_publisher}
 use Rattle.xl_publish.specs.Forces.{is_named}
 use Rattle.xl_publish.specs.Refusing.{refusal_of}
 use Rattle.xl_publish.specs.Registers.{Register, no_publishers, after_key, after_roll}
-use Rattle.xl_settings.specs.declared.entry.Entry.TheVariants as Entry
-use Rattle.xl_settings.specs.declared.key_name.KeyName.TheVariants as key
-use Rattle.xl_settings.specs.declared.publishers.PublisherKey.{PublisherKey}
-use Rattle.xl_settings.specs.declared.taken.Taken.{Taken}
+use Rattle.xl_settings.specs.declared.keys.entry.Entry.TheVariants as Entry
+use Rattle.xl_settings.specs.declared.keys.key_name.KeyName.TheVariants as key
+use Rattle.xl_settings.specs.declared.trusting.publishers.PublisherKey.{PublisherKey}
+use Rattle.xl_settings.specs.declared.trusting.taken.Taken.{Taken}
 use Rattle.xl_settings.specs.Different.{are_different}
 use Rattle.xl_settings.specs.Keys.{has_keys_only}
 use Rattle.xl_settings.specs.Peers.{key_at}

@@ -7,15 +7,15 @@ use Rattle.toml.specs.Parse.{parse_document}
 use Rattle.xl_base.specs.declared.ids.TxId.{TxId}
 use Rattle.xl_base.specs.Members.{greatest_node_no}
 use Rattle.xl_ledger.specs.Limits.{greatest_limit, least_limit}
-use Rattle.xl_settings.specs.declared.key_name.KeyName.{KeyName}
-use Rattle.xl_settings.specs.declared.key_name.KeyName.TheVariants as key
+use Rattle.xl_settings.specs.declared.keys.key_name.KeyName.{KeyName}
+use Rattle.xl_settings.specs.declared.keys.key_name.KeyName.TheVariants as key
 use Rattle.xl_settings.specs.Limits.{most_bytes, usual_limit, usual_turns, greatest_turns, usual_heartbeat_ms, least_heartbeat_ms, greatest_heartbeat_ms, greatest_run_ms, usual_speak, greatest_speak}
 use Rattle.xl_settings.specs.declared.refusal.SettingsRefusal.{SettingsRefusal}
 use Rattle.xl_settings.specs.declared.refusal.SettingsRefusal.TheVariants.{Length, Text, Unknown, Known}
 use Rattle.xl_settings.specs.declared.settings.Settings.{Settings}
-use Rattle.xl_settings.specs.declared.stated.Stated.{Stated}
+use Rattle.xl_settings.specs.declared.trusting.stated.Stated.{Stated}
 use Rattle.xl_settings.specs.declared.table.Basis.{Basis}
-use Rattle.xl_settings.specs.declared.trust.Trust.{Trust}
+use Rattle.xl_settings.specs.declared.trusting.trust.Trust.{Trust}
 use Rattle.xl_settings.specs.Doors.{submit_at}
 use Rattle.xl_settings.specs.Journals.{journal_at, journal_bytes_at, journal_file_at, journal_keys_at}
 use Rattle.xl_settings.specs.Keys.{least_unknown}

@@ -2,7 +2,7 @@
 use Rattle.std.specs.Prelude.{ℕ, ℤ, pos, negsuc, ◌-◌, ◌^◌, ◌&&◌, nat_le, List, [], ◌∷◌, Option, Some, None, option_map, if◌then◌else◌}
 use Rattle.std.specs.Option.{option_and_then}
 use Rattle.toml.specs.Data.{Data, Items, no_items, item, Members, get_member, as_integer, as_array}
-use Rattle.xl_settings.specs.declared.key_name.KeyName.{KeyName}
+use Rattle.xl_settings.specs.declared.keys.key_name.KeyName.{KeyName}
 use Rattle.xl_settings.specs.Keys.{text_of}
 
 -- what stands at a key

@@ -5,9 +5,9 @@ ghost use Rattle.xl_settings.specs.Answers.{GivenMemory, NamesKey};
 ghost use Rattle.xl_settings.specs.Runnable.{AreRunnable};
 ghost use Rattle.xl_settings.specs.Settings.{in_document, settings_of};
 
+use crate::keys::unknown::least_unknown;
 use crate::limits::MOST_BYTES;
 use crate::table::settings_in;
-use crate::unknown::least_unknown;
 use crate::{Settings, SettingsFault, SettingsRefusal};
 use std::alloc::Global;
 use toml::Table;

@@ -8,40 +8,28 @@
 #![tactic(auto)]
 
 mod document;
-mod door;
-mod entry;
 mod fault;
-mod journal;
-mod key_name;
+mod keys;
 mod limits;
 mod line;
-mod members;
-mod path;
-mod peering;
-mod peers;
-mod publishers;
+mod meeting;
+mod outlets;
 mod refusal;
-mod rolls;
 mod settings;
 mod source;
-mod stated;
-mod submits;
 mod table;
-mod taken;
-mod trust;
-mod unknown;
-mod values;
+mod trusting;
 
 pub use document::read_settings;
 pub use fault::SettingsFault;
-pub use key_name::KeyName;
+pub use keys::key_name::KeyName;
 pub use limits::{
     GREATEST_HEARTBEAT_MS, GREATEST_JOURNAL_BYTES, GREATEST_RUN_MS, GREATEST_TURNS,
     LEAST_HEARTBEAT_MS, MOST_BYTES, USUAL_HEARTBEAT_MS, USUAL_JOURNAL_BYTES, USUAL_LIMIT,
     USUAL_TURNS,
 };
 pub use line::write_refusal;
-pub use peers::{Peer, Peers};
+pub use meeting::peers::{Peer, Peers};
 pub use refusal::SettingsRefusal;
 pub use settings::Settings;
 pub use source::settings_from;

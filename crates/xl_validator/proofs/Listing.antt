@@ -7,7 +7,7 @@ use Rattle.std.proofs.lemmas.Bool.{cases_eq, or_cases}
 use Rattle.std.proofs.lemmas.List.{map-append}
 use Rattle.std.proofs.lemmas.Bool.Decides.{nat_tests}
 use Rattle.std.proofs.lemmas.Map.Made.{length-le_from_is_member}
-use Rattle.xl_settings.specs.declared.peers.Peer.{Peer}
+use Rattle.xl_settings.specs.declared.meeting.peers.Peer.{Peer}
 use Rattle.xl_links.specs.Ways.{Target}
 use Rattle.xl_settings.specs.Peers.{PeerSetting, setting_of}
 use Rattle.xl_workers.specs.declared.plan.Contact.{Contact}

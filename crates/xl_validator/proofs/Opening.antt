@@ -9,7 +9,7 @@ use Rattle.xl_lists.specs.Lists.{TrustedList}
 use Rattle.xl_tags.specs.Opening.{HasKeys}
 use Rattle.xl_tags.specs.Rings.{Ring, key_of}
 use Rattle.xl_core.specs.Rest.{IsKeyed}
-use Rattle.xl_settings.specs.declared.peers.Peer.{Peer}
+use Rattle.xl_settings.specs.declared.meeting.peers.Peer.{Peer}
 use Rattle.xl_settings.specs.Different.{are_different}
 use Rattle.xl_settings.specs.Peers.{PeerSetting, are_peers, is_peer, setting_of}
 use Rattle.xl_base.specs.declared.ids.TxId.{TxId}

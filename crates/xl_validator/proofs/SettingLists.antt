@@ -31,7 +31,7 @@ use Rattle.xl_heartbeat.specs.declared.rolls_text.RollsText.{RollsText}
 use Rattle.xl_status.specs.declared.look.Look.{Look}
 use Rattle.xl_heartbeat.specs.Looks.{IsLed, IsLook, Looks, Reads}
 use Rattle.xl_heartbeat.specs.Relisting.{made_at, relist}
-use Rattle.xl_settings.specs.declared.peers.Peer.{Peer}
+use Rattle.xl_settings.specs.declared.meeting.peers.Peer.{Peer}
 use Rattle.xl_settings.specs.Peers.{PeerSetting, setting_of, are_peers, is_peer}
 use Rattle.xl_settings.specs.Publishers.{named_by}
 use Rattle.xl_settings.proofs.Naming.{force_met, if_some, met_later}

@@ -8,7 +8,7 @@ use Rattle.std.proofs.lemmas.List.{map-append, take_all}
 use Rattle.std.proofs.lemmas.List.Sums.{fold-append}
 use Rattle.std.proofs.lemmas.List.Elements.{All-more, All-weaker}
 use Rattle.xl_tags.specs.Rings.{Ring, key_of, no_keys, with_key}
-use Rattle.xl_settings.specs.declared.peers.Peer.{Peer}
+use Rattle.xl_settings.specs.declared.meeting.peers.Peer.{Peer}
 use Rattle.xl_settings.specs.Peers.{is_peer, setting_of}
 use Rattle.xl_validator.specs.Openings.{ring_of, with_peer}
 

@@ -12,8 +12,8 @@ use Rattle.xl_status.specs.declared.end.Unmade.{Unmade}
 use Rattle.xl_status.specs.Texts.{end_at}
 use Rattle.xl_heartbeat.specs.declared.bulletin.Bulletin.{Bulletin}
 use Rattle.xl_heartbeat.specs.Bulletins.{TellsEnd, ToldIf}
-use Rattle.xl_settings.specs.declared.key_name.KeyName.{KeyName}
-use Rattle.xl_settings.specs.declared.key_name.KeyName.TheVariants as key
+use Rattle.xl_settings.specs.declared.keys.key_name.KeyName.{KeyName}
+use Rattle.xl_settings.specs.declared.keys.key_name.KeyName.TheVariants as key
 use Rattle.xl_settings.specs.declared.refusal.SettingsRefusal.{SettingsRefusal}
 use Rattle.xl_settings.specs.declared.settings.Settings.{Settings}
 use Rattle.xl_settings.specs.Settings.{settings_of}

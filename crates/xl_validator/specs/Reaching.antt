@@ -1,7 +1,7 @@
 -- Which path of settings can't be opened. Source: what the code of this crate relies on, and this project's own.
 use Rattle.std.specs.Prelude.{◌⊎◌, IsSome}
-use Rattle.xl_settings.specs.declared.key_name.KeyName.{KeyName}
-use Rattle.xl_settings.specs.declared.key_name.KeyName.TheVariants as key
+use Rattle.xl_settings.specs.declared.keys.key_name.KeyName.{KeyName}
+use Rattle.xl_settings.specs.declared.keys.key_name.KeyName.TheVariants as key
 use Rattle.xl_settings.specs.declared.settings.Settings.{Settings}
 use Rattle.xl_validator.specs.declared.reaching.Unreached.{Unreached}
 use Rattle.xl_validator.specs.declared.reaching.Unreached.TheVariants.{Refused, OutOfMemory}

@@ -17,7 +17,7 @@ use Rattle.xl_status.specs.Texts.{end_at}
 use Rattle.xl_heartbeat.specs.declared.bulletin.Bulletin.{Bulletin}
 use Rattle.xl_heartbeat.specs.Bulletins.{TellsEnd, TellsUnopened, Told}
 use Rattle.xl_settings.specs.declared.settings.Settings.{Settings}
-use Rattle.xl_settings.specs.declared.key_name.KeyName.{KeyName}
+use Rattle.xl_settings.specs.declared.keys.key_name.KeyName.{KeyName}
 use Rattle.xl_settings.specs.declared.refusal.SettingsRefusal.TheVariants.{Known}
 use Rattle.xl_settings.specs.Lines.{refusal_line}
 use Rattle.xl_settings.specs.Settings.{settings_of}

@@ -2,7 +2,7 @@
 ghost use Rattle.std.specs.Prelude.{◌≡◌, false, map, IsSome};
 ghost use Rattle.std.specs.List.{All};
 ghost use Rattle.xl_settings.specs.Peers.{is_peer, setting_of};
-ghost use Rattle.xl_settings.specs.declared.peers.Peer.{Peer as ThePeer};
+ghost use Rattle.xl_settings.specs.declared.meeting.peers.Peer.{Peer as ThePeer};
 ghost use Rattle.xl_tags.specs.Rings.{key_of};
 ghost use Rattle.xl_validator.specs.Openings.{ring_of};
 

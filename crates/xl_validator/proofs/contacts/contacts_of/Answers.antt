@@ -3,7 +3,7 @@ use Rattle.std.proofs.Common.{◌≡◌, ◌<◌, length, List, [], sym, subst, 
 use Rattle.std.proofs.lemmas.List.{nil_from_length}
 use Rattle.std.proofs.lemmas.Bool.{eqb-true}
 use Rattle.xl_workers.specs.declared.plan.Contact.{Contact}
-use Rattle.xl_settings.specs.declared.peers.Peer.{Peer}
+use Rattle.xl_settings.specs.declared.meeting.peers.Peer.{Peer}
 use Rattle.xl_validator.proofs.Listing.{AreMade, none_made, one_made, all_made, first_off}
 use Rattle.xl_validator.proofs.contacts.contacts_of.Goals as goal
 

@@ -1,0 +1,26 @@
+-- the numbers so far, before what the values left give, are those of all, and one value that is none makes all none
+use Rattle.std.proofs.Common.{rules, ◌≡◌, ◌∙◌, sym, map, [], ◌∷◌, ◌++◌}
+use Rattle.toml.specs.View.{view}
+use Rattle.xl_settings.specs.Values.{all_read, number_in}
+use Rattle.xl_settings.proofs.Reading.{after_none, unread, read_on, all_done}
+use Rattle.xl_settings.proofs.trusting.members.numbers_in.Goals as goal
+
+pub loop-value-init : goal.loop-value-init
+loop-value-init c = rw c.before.new-numbers.ensures.items (after_none (all_read number_in
+    (map view c.args.values.now)))
+
+pub returns-in_default : goal.returns-in_default
+returns-in_default c =
+    sym (c.loop-value.invariant ∙ unread number_in c.loop-value.numbers.items c.args.values.now
+    c.loop-value.value-index c.value-item.result c.loop-value-test.true (search rules))
+
+pub loop-value-preserved : goal.loop-value-preserved
+loop-value-preserved c =
+    let items : c.push.new.self.items ≡ c.loop-value.numbers.items ++ c.in-Some.number ∷ [] = search rules in
+    rw items (c.loop-value.invariant ∙ read_on number_in c.loop-value.numbers.items c.args.values.now
+    c.loop-value.value-index c.value-item.result c.in-Some.number c.loop-value-test.true (search rules))
+
+pub returns : goal.returns
+returns c = sym (c.loop-value.invariant
+    ∙ all_done number_in c.loop-value.numbers.items c.args.values.now c.loop-value.value-index
+    c.loop-value-test.false)

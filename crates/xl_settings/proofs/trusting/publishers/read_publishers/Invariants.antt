@@ -1,0 +1,10 @@
+use Rattle.std.proofs.Common.{◌≡◌, drop, map}
+use Rattle.toml.specs.View.{view}
+use Rattle.xl_settings.specs.Publishers.{publisher_in}
+use Rattle.xl_settings.specs.Values.{all_read}
+use Rattle.xl_settings.proofs.Reading.{after}
+use Rattle.xl_settings.proofs.trusting.publishers.read_publishers.Given as goal
+
+abbrev pub invariant-loop-value : goal.invariant-loop-value
+invariant-loop-value l = all_read publisher_in (map view l.fn.values) ≡ after l.publishers.items (all_read publisher_in
+    (map view (drop l.value-index l.fn.values)))
