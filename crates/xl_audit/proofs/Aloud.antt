@@ -4,9 +4,9 @@ use Rattle.std.specs.Prelude.{codes, decimal}
 use Rattle.xl_lines.specs.Causes.{RefusesAloud, EndsAloud}
 use Rattle.xl_sched.specs.Refusals.{code_of, token_of}
 use Rattle.xl_sched.specs.Tokens.{shown_token}
-use Rattle.xl_audit.specs.declared.judging.BadLine.{BadLine}
-use Rattle.xl_audit.specs.declared.tagging.Tagging.{Tagging}
-use Rattle.xl_audit.specs.declared.judging.BadLine.TheVariants.{Refused, Keyless}
+use Rattle.xl_audit.specs.declared.auditing.judging.BadLine.{BadLine}
+use Rattle.xl_audit.specs.declared.texts.tagging.Tagging.{Tagging}
+use Rattle.xl_audit.specs.declared.auditing.judging.BadLine.TheVariants.{Refused, Keyless}
 use Rattle.xl_audit.specs.Auditing.{goes_on, wrong, refuses, beyond, bad_text, bad_line, newline, ended}
 use Rattle.xl_audit.specs.Audits.{bounded_step, cut_line, line_step_of, rules, tagging_then, told_at_end, told_unless_cut}
 use Rattle.xl_audit.specs.Cuts.{Came, cut, whole}

@@ -5,7 +5,7 @@ use Rattle.xl_lines.specs.Lines.{lines_of, onto}
 use Rattle.xl_core.specs.Core.{Core}
 use Rattle.xl_store.specs.declared.entry.Entry.{Entry}
 use Rattle.xl_store.specs.Entries.{reply_of}
-use Rattle.xl_audit.specs.declared.written.Written.{Written}
+use Rattle.xl_audit.specs.declared.texts.written.Written.{Written}
 use Rattle.xl_audit.specs.Journals.{entries_text, key_text}
 use Rattle.xl_audit.specs.Laws.{written_with}
 use Rattle.xl_audit.specs.Rights.{reply_to}

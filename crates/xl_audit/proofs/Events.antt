@@ -15,9 +15,9 @@ use Rattle.xl_sched.specs.Refusals.{◌>>=◌}
 use Rattle.xl_store.specs.declared.entry.Saved.{Saved}
 use Rattle.xl_store.specs.declared.entry.Saved.TheVariants as saved
 use Rattle.xl_store.specs.Entries.{IsAllowed, IsOutcome, entry_of}
-use Rattle.xl_audit.specs.declared.word.EntryWord.{EntryWord}
-use Rattle.xl_audit.specs.declared.word.EntryWord.TheVariants as word
-use Rattle.xl_audit.specs.declared.written.Written.{Written}
+use Rattle.xl_audit.specs.declared.reading.word.EntryWord.{EntryWord}
+use Rattle.xl_audit.specs.declared.reading.word.EntryWord.TheVariants as word
+use Rattle.xl_audit.specs.declared.texts.written.Written.{Written}
 use Rattle.xl_audit.specs.Journals.{entry_line, event_text, kind_text, members_text, outcome_text}
 use Rattle.xl_audit.specs.Reading.{arity, event_of, outcome_len, reply_in, least_behind, least_of, counted_entry, told_entry, relist_entry, entry_in}
 use Rattle.xl_audit.specs.Replies.{bytes_text}

@@ -21,8 +21,8 @@ use Rattle.xl_sched.specs.Numbers.{number_within, number_of, is_number, value_of
 use Rattle.xl_sched.specs.Refusals.{◌>>=◌}
 use Rattle.xl_store.specs.declared.entry.Saved.TheVariants as saved
 use Rattle.xl_store.specs.Entries.{IsAllowed}
-use Rattle.xl_audit.specs.declared.word.EntryWord.{EntryWord}
-use Rattle.xl_audit.specs.declared.word.EntryWord.TheVariants as word
+use Rattle.xl_audit.specs.declared.reading.word.EntryWord.{EntryWord}
+use Rattle.xl_audit.specs.declared.reading.word.EntryWord.TheVariants as word
 use Rattle.xl_audit.specs.Reading.{entry_word, arity, event_of, outcome_len, reply_in, least_of, told_entry, relist_entry, counted_relist, worded_entry, entry_in}
 use Rattle.xl_audit.specs.Rights.{IsAsked}
 use Rattle.xl_audit.specs.Saves.{IsCounted}

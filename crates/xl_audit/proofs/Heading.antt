@@ -11,7 +11,7 @@ use Rattle.xl_tags.specs.Rings.{Ring, key_of, no_keys}
 use Rattle.xl_core.specs.declared.settings.Settings.{Settings}
 use Rattle.xl_sched.specs.declared.refusal.SchedRefusal.{SchedRefusal}
 use Rattle.xl_sched.specs.declared.refusal.SchedRefusal.TheVariants.{Number, Twice}
-use Rattle.xl_audit.specs.declared.opening.Opening.{Opening}
+use Rattle.xl_audit.specs.declared.reading.opening.Opening.{Opening}
 use Rattle.xl_audit.specs.Journals.{key_text, list_text, members_text, opening_text, settings_line, validating_text}
 use Rattle.xl_audit.specs.Opening.{opening_in, key_in}
 use Rattle.xl_audit.specs.Rereading.{MayBeWritten}

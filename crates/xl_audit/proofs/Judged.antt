@@ -12,15 +12,15 @@ use Rattle.xl_sched.specs.declared.refusal.SchedRefusal.TheVariants.{Late}
 use Rattle.xl_store.specs.declared.entry.Saved.{Saved}
 use Rattle.xl_store.specs.declared.entry.Saved.TheVariants as saved
 use Rattle.xl_store.specs.Entries.{IsOutcome}
-use Rattle.xl_audit.specs.declared.compared.Likeness.{Likeness}
-use Rattle.xl_audit.specs.declared.compared.Likeness.TheVariants as like
-use Rattle.xl_audit.specs.declared.judging.BadLine.TheVariants.{Refused}
-use Rattle.xl_audit.specs.declared.judging.Stage.{Stage}
-use Rattle.xl_audit.specs.declared.judging.Stage.TheVariants.{Judging}
+use Rattle.xl_audit.specs.declared.auditing.compared.Likeness.{Likeness}
+use Rattle.xl_audit.specs.declared.auditing.compared.Likeness.TheVariants as like
+use Rattle.xl_audit.specs.declared.auditing.judging.BadLine.TheVariants.{Refused}
+use Rattle.xl_audit.specs.declared.auditing.judging.Stage.{Stage}
+use Rattle.xl_audit.specs.declared.auditing.judging.Stage.TheVariants.{Judging}
 use Rattle.xl_audit.specs.Limits.{most_bytes, most_lines}
-use Rattle.xl_audit.specs.declared.tagging.Tagging.{Tagging}
-use Rattle.xl_audit.specs.declared.tagging.Tagging.TheVariants.{Tagged, Untagged}
-use Rattle.xl_audit.specs.declared.written.Written.{Written}
+use Rattle.xl_audit.specs.declared.texts.tagging.Tagging.{Tagging}
+use Rattle.xl_audit.specs.declared.texts.tagging.Tagging.TheVariants.{Tagged, Untagged}
+use Rattle.xl_audit.specs.declared.texts.written.Written.{Written}
 use Rattle.xl_lines.specs.declared.machine.Verdict.TheVariants.{Good, Found}
 use Rattle.xl_lines.specs.Rules.{Told, Step as LineStep, refuses as line_refuses}
 use Rattle.xl_lines.specs.Told.{told_by, told_from, step_at, step_within}

@@ -7,13 +7,13 @@ use Rattle.xl_tags.specs.Rings.{Ring}
 use Rattle.xl_core.specs.Core.{Core}
 use Rattle.xl_sched.specs.declared.refusal.SchedRefusal.{SchedRefusal}
 use Rattle.xl_sched.specs.declared.refusal.SchedRefusal.TheVariants.{Late}
-use Rattle.xl_audit.specs.declared.judging.BadLine.TheVariants.{Refused}
-use Rattle.xl_audit.specs.declared.judging.Stage.{Stage}
-use Rattle.xl_audit.specs.declared.judging.Stage.TheVariants.{Heading, Setting, Keying, Judging}
-use Rattle.xl_audit.specs.declared.opening.Opening.{Opening}
-use Rattle.xl_audit.specs.declared.tagging.Tagging.TheVariants.{Tagged, Untagged}
-use Rattle.xl_audit.specs.declared.tagging.Tagging.{Tagging}
-use Rattle.xl_audit.specs.declared.written.Written.{Written}
+use Rattle.xl_audit.specs.declared.auditing.judging.BadLine.TheVariants.{Refused}
+use Rattle.xl_audit.specs.declared.auditing.judging.Stage.{Stage}
+use Rattle.xl_audit.specs.declared.auditing.judging.Stage.TheVariants.{Heading, Setting, Keying, Judging}
+use Rattle.xl_audit.specs.declared.reading.opening.Opening.{Opening}
+use Rattle.xl_audit.specs.declared.texts.tagging.Tagging.TheVariants.{Tagged, Untagged}
+use Rattle.xl_audit.specs.declared.texts.tagging.Tagging.{Tagging}
+use Rattle.xl_audit.specs.declared.texts.written.Written.{Written}
 use Rattle.xl_audit.specs.Auditing.{Step, refuses, judgement, keyed, opening_step}
 use Rattle.xl_audit.specs.Cuts.{came_as, whole}
 use Rattle.xl_audit.specs.Leading.{Lead, leads, read_lead, entry_lead, opening_lead, lead, judged_lead, StepIsLed, IsAskedIn}

@@ -7,8 +7,8 @@ use Rattle.xl_core.specs.declared.event.CoreEvent.{CoreEvent}
 use Rattle.xl_core.specs.declared.event.CoreEvent.TheVariants as event
 use Rattle.xl_store.specs.declared.entry.Entry.{Entry}
 use Rattle.xl_store.specs.Entries.{IsAllowed, Leads, reply_of}
-use Rattle.xl_audit.specs.declared.tagging.Tagging.TheVariants.{Untagged}
-use Rattle.xl_audit.specs.declared.written.Written.{Written}
+use Rattle.xl_audit.specs.declared.texts.tagging.Tagging.TheVariants.{Untagged}
+use Rattle.xl_audit.specs.declared.texts.written.Written.{Written}
 use Rattle.xl_audit.specs.Rights.{AreRight, AreRightAs, entries_of, next_as}
 use Rattle.xl_audit.specs.Laws.{RightIsLegal, LegalIsRight, UntaggedIsLegal, entries_retagged, replies_over, untagged_over, written_over}
 use Rattle.xl_audit.specs.Untagged.{is_marked, retagged}

@@ -26,8 +26,8 @@ use Rattle.xl_core.specs.declared.item.Item.{Item}
 use Rattle.xl_core.specs.declared.report.Report.{Report}
 use Rattle.xl_core.proofs.Greeted.{fits_front, frames_further, greeting_then}
 use Rattle.xl_core.proofs.Spelling.{sealed_raw}
-use Rattle.xl_audit.specs.declared.tagging.Tagging.{Tagging}
-use Rattle.xl_audit.specs.declared.tagging.Tagging.TheVariants.{Tagged, Untagged}
+use Rattle.xl_audit.specs.declared.texts.tagging.Tagging.{Tagging}
+use Rattle.xl_audit.specs.declared.texts.tagging.Tagging.TheVariants.{Tagged, Untagged}
 use Rattle.xl_audit.specs.Pieces.{bytes_given, frames_as, handed_out, HasDrained, HasHanded}
 
 abbrev Frames : Type 0

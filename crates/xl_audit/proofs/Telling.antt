@@ -20,9 +20,9 @@ use Rattle.xl_core.proofs.Unasked.{unasked_alike}
 use Rattle.xl_store.specs.declared.entry.Saved.{Saved}
 use Rattle.xl_store.specs.declared.entry.Saved.TheVariants as saved
 use Rattle.xl_store.specs.Entries.{save_of}
-use Rattle.xl_audit.specs.declared.saving.EntryKeeper.{EntryKeeper}
-use Rattle.xl_audit.specs.declared.tagging.Tagging.{Tagging}
-use Rattle.xl_audit.specs.declared.tagging.Tagging.TheVariants.{Tagged, Untagged}
+use Rattle.xl_audit.specs.declared.auditing.saving.EntryKeeper.{EntryKeeper}
+use Rattle.xl_audit.specs.declared.texts.tagging.Tagging.{Tagging}
+use Rattle.xl_audit.specs.declared.texts.tagging.Tagging.TheVariants.{Tagged, Untagged}
 use Rattle.xl_audit.specs.Pieces.{frames_as}
 use Rattle.xl_audit.specs.Replies.{bytes_text, reply_text}
 use Rattle.xl_audit.specs.Rights.{tells_of}

@@ -12,13 +12,13 @@ use Rattle.xl_lines.specs.Rules.{Told, Step as LineStep, refuses as line_refuses
 use Rattle.xl_lines.specs.Told.{told_by, told_from}
 use Rattle.xl_sched.specs.declared.refusal.SchedRefusal.{SchedRefusal}
 use Rattle.xl_sched.specs.declared.refusal.SchedRefusal.TheVariants.{Header, Late, Word}
-use Rattle.xl_audit.specs.declared.judging.BadLine.{BadLine}
-use Rattle.xl_audit.specs.declared.judging.BadLine.TheVariants.{Refused}
-use Rattle.xl_audit.specs.declared.judging.Stage.TheVariants.{Heading, Setting, Keying, Judging}
+use Rattle.xl_audit.specs.declared.auditing.judging.BadLine.{BadLine}
+use Rattle.xl_audit.specs.declared.auditing.judging.BadLine.TheVariants.{Refused}
+use Rattle.xl_audit.specs.declared.auditing.judging.Stage.TheVariants.{Heading, Setting, Keying, Judging}
 use Rattle.xl_audit.specs.Limits.{most_lines}
-use Rattle.xl_audit.specs.declared.opening.Opening.{Opening}
-use Rattle.xl_audit.specs.declared.tagging.Tagging.{Tagging}
-use Rattle.xl_audit.specs.declared.tagging.Tagging.TheVariants.{Tagged, Untagged}
+use Rattle.xl_audit.specs.declared.reading.opening.Opening.{Opening}
+use Rattle.xl_audit.specs.declared.texts.tagging.Tagging.{Tagging}
+use Rattle.xl_audit.specs.declared.texts.tagging.Tagging.TheVariants.{Tagged, Untagged}
 use Rattle.xl_audit.specs.Auditing.{Step, goes_on, wrong, refuses, heading_step, set, keyed, opening_step, entry_step, unless_keyless}
 use Rattle.xl_audit.specs.Audits.{Auditing, audit_of, limits, line_step_of, rules, told_at_end}
 use Rattle.xl_audit.specs.Cuts.{Came, cut, whole, came_at, led_last, names_peers, opened_step, peered, peers_step}

@@ -9,11 +9,11 @@ use Rattle.xl_lines.specs.Told.{told_of}
 use Rattle.xl_lines.specs.Soon.{told_soon}
 use Rattle.xl_texts.specs.Promises.{Promise, to_what_is_found, always}
 use Rattle.xl_audit.specs.Limits.{most_bytes, most_lines}
-use Rattle.xl_audit.specs.declared.judging.BadLine.{BadLine}
-use Rattle.xl_audit.specs.declared.judging.Stage.{Stage}
-use Rattle.xl_audit.specs.declared.judging.Stage.TheVariants.{Heading}
-use Rattle.xl_audit.specs.declared.tagging.Tagging.{Tagging}
-use Rattle.xl_audit.specs.declared.tagging.Tagging.TheVariants.{Tagged, Untagged}
+use Rattle.xl_audit.specs.declared.auditing.judging.BadLine.{BadLine}
+use Rattle.xl_audit.specs.declared.auditing.judging.Stage.{Stage}
+use Rattle.xl_audit.specs.declared.auditing.judging.Stage.TheVariants.{Heading}
+use Rattle.xl_audit.specs.declared.texts.tagging.Tagging.{Tagging}
+use Rattle.xl_audit.specs.declared.texts.tagging.Tagging.TheVariants.{Tagged, Untagged}
 use Rattle.xl_audit.specs.Auditing.{goes_on, wrong, refuses, bad_line, beyond, ended, newline, no_line}
 use Rattle.xl_audit.specs.Cuts.{Came, cut, whole, came_behind, tagging_behind}
 

@@ -7,16 +7,16 @@ use Rattle.xl_tags.specs.Rings.{Ring}
 use Rattle.xl_core.specs.Core.{Core, core_asks}
 use Rattle.xl_sched.specs.declared.refusal.SchedRefusal.{SchedRefusal}
 use Rattle.xl_store.specs.Entries.{reply_of}
-use Rattle.xl_audit.specs.declared.compared.Likeness.{Likeness}
-use Rattle.xl_audit.specs.declared.compared.Likeness.TheVariants as like
-use Rattle.xl_audit.specs.declared.judging.BadLine.{BadLine}
-use Rattle.xl_audit.specs.declared.judging.Stage.{Stage}
-use Rattle.xl_audit.specs.declared.judging.BadLine.TheVariants.{Refused, Keyless}
-use Rattle.xl_audit.specs.declared.judging.Stage.TheVariants.{Keying, Judging}
-use Rattle.xl_audit.specs.declared.opening.Opening.{Opening}
-use Rattle.xl_audit.specs.declared.tagging.Tagging.{Tagging}
-use Rattle.xl_audit.specs.declared.tagging.Tagging.TheVariants.{Tagged, Untagged}
-use Rattle.xl_audit.specs.declared.written.Written.{Written}
+use Rattle.xl_audit.specs.declared.auditing.compared.Likeness.{Likeness}
+use Rattle.xl_audit.specs.declared.auditing.compared.Likeness.TheVariants as like
+use Rattle.xl_audit.specs.declared.auditing.judging.BadLine.{BadLine}
+use Rattle.xl_audit.specs.declared.auditing.judging.Stage.{Stage}
+use Rattle.xl_audit.specs.declared.auditing.judging.BadLine.TheVariants.{Refused, Keyless}
+use Rattle.xl_audit.specs.declared.auditing.judging.Stage.TheVariants.{Keying, Judging}
+use Rattle.xl_audit.specs.declared.reading.opening.Opening.{Opening}
+use Rattle.xl_audit.specs.declared.texts.tagging.Tagging.{Tagging}
+use Rattle.xl_audit.specs.declared.texts.tagging.Tagging.TheVariants.{Tagged, Untagged}
+use Rattle.xl_audit.specs.declared.texts.written.Written.{Written}
 use Rattle.xl_audit.specs.Auditing.{Step, goes_on, wrong, refuses, ended, step}
 use Rattle.xl_audit.specs.Leading.{Lead, leads, tells, lead, judged_lead}
 use Rattle.xl_audit.specs.Opening.{core_of, unmet}

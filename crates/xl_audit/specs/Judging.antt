@@ -6,15 +6,15 @@ use Rattle.xl_ledger.specs.Limits.{greatest_limit, least_limit}
 use Rattle.xl_sched.specs.declared.refusal.SchedRefusal.{SchedRefusal}
 use Rattle.xl_sched.specs.declared.refusal.SchedRefusal.TheVariants.{OutOfMemory}
 use Rattle.xl_tags.specs.Rings.{Ring}
-use Rattle.xl_audit.specs.declared.judging.BadLine.{BadLine}
-use Rattle.xl_audit.specs.declared.judging.BadLine.TheVariants as bad
-use Rattle.xl_audit.specs.declared.judging.Stage.{Stage}
-use Rattle.xl_audit.specs.declared.judging.Stage.TheVariants.{Heading, Setting, Keying, Judging}
-use Rattle.xl_audit.specs.declared.judging.Came.{Came as CameAnswer}
-use Rattle.xl_audit.specs.declared.judging.Came.TheVariants as came
-use Rattle.xl_audit.specs.declared.judging.Step.{Step as Answer}
-use Rattle.xl_audit.specs.declared.judging.Step.TheVariants as answer
-use Rattle.xl_audit.specs.declared.opening.Opening.{Opening}
+use Rattle.xl_audit.specs.declared.auditing.judging.BadLine.{BadLine}
+use Rattle.xl_audit.specs.declared.auditing.judging.BadLine.TheVariants as bad
+use Rattle.xl_audit.specs.declared.auditing.judging.Stage.{Stage}
+use Rattle.xl_audit.specs.declared.auditing.judging.Stage.TheVariants.{Heading, Setting, Keying, Judging}
+use Rattle.xl_audit.specs.declared.auditing.judging.Came.{Came as CameAnswer}
+use Rattle.xl_audit.specs.declared.auditing.judging.Came.TheVariants as came
+use Rattle.xl_audit.specs.declared.auditing.judging.Step.{Step as Answer}
+use Rattle.xl_audit.specs.declared.auditing.judging.Step.TheVariants as answer
+use Rattle.xl_audit.specs.declared.reading.opening.Opening.{Opening}
 use Rattle.xl_audit.specs.Auditing.{Step, goes_on, wrong, refuses}
 use Rattle.xl_audit.specs.Cuts.{Came, cut, whole}
 

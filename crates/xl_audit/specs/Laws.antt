@@ -4,9 +4,9 @@ use Rattle.xl_turns.specs.Histories.{IsLegal}
 use Rattle.xl_core.specs.Core.{Core}
 use Rattle.xl_store.specs.declared.entry.Entry.{Entry}
 use Rattle.xl_store.specs.Entries.{Leads, reply_of}
-use Rattle.xl_audit.specs.declared.tagging.Tagging.{Tagging}
-use Rattle.xl_audit.specs.declared.tagging.Tagging.TheVariants.{Tagged, Untagged}
-use Rattle.xl_audit.specs.declared.written.Written.{Written}
+use Rattle.xl_audit.specs.declared.texts.tagging.Tagging.{Tagging}
+use Rattle.xl_audit.specs.declared.texts.tagging.Tagging.TheVariants.{Tagged, Untagged}
+use Rattle.xl_audit.specs.declared.texts.written.Written.{Written}
 use Rattle.xl_audit.specs.Rights.{AreRight, AreRightAs, entries_of, next_as, reply_as, reply_to}
 use Rattle.xl_audit.specs.Untagged.{entry_as, text_as}
 

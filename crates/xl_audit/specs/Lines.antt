@@ -4,7 +4,7 @@ use Rattle.xl_core.specs.Core.{Core, core_asks}
 use Rattle.xl_core.specs.CoreLives.{core_after}
 use Rattle.xl_store.specs.declared.entry.Entry.{Entry}
 use Rattle.xl_store.specs.Entries.{IsAllowed, IsOutcome, life_of, reply_of}
-use Rattle.xl_audit.specs.declared.tagging.Tagging.{Tagging}
+use Rattle.xl_audit.specs.declared.texts.tagging.Tagging.{Tagging}
 use Rattle.xl_audit.specs.Journals.{entries_text_as, entry_line}
 use Rattle.xl_audit.specs.Laws.{answer_text, written_with}
 use Rattle.xl_audit.specs.Saves.{IsCounted}

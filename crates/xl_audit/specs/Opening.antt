@@ -13,7 +13,7 @@ use Rattle.xl_sched.specs.declared.refusal.SchedRefusal.TheVariants.{Word as IsN
 use Rattle.xl_sched.specs.Members.{member_of, members_of, trusted_of}
 use Rattle.xl_sched.specs.Numbers.{number_of, number_within}
 use Rattle.xl_sched.specs.Refusals.{◌>>=◌, miscounted}
-use Rattle.xl_audit.specs.declared.opening.Opening.{Opening}
+use Rattle.xl_audit.specs.declared.reading.opening.Opening.{Opening}
 use Rattle.xl_audit.specs.Tokens.{moment_of, id_of, yes_of}
 use Rattle.xl_audit.specs.Words.{first, others, word_at}
 

@@ -4,8 +4,8 @@ use Rattle.xl_core.specs.Core.{Core, given_for, after_drain}
 use Rattle.xl_core.specs.Queues.{frames_in, stream_of, without}
 use Rattle.xl_core.specs.Sending.{without_tag}
 use Rattle.xl_core.specs.declared.report.Report.{Report}
-use Rattle.xl_audit.specs.declared.tagging.Tagging.{Tagging}
-use Rattle.xl_audit.specs.declared.tagging.Tagging.TheVariants.{Tagged, Untagged}
+use Rattle.xl_audit.specs.declared.texts.tagging.Tagging.{Tagging}
+use Rattle.xl_audit.specs.declared.texts.tagging.Tagging.TheVariants.{Tagged, Untagged}
 
 -- frames as they are told, with their tags or without
 abbrev pub frames_as : Tagging → List (List ℕ) → List (List ℕ)

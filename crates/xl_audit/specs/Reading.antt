@@ -17,9 +17,9 @@ use Rattle.xl_sched.specs.Refusals.{◌>>=◌, miscounted}
 use Rattle.xl_store.specs.declared.entry.Saved.{Saved}
 use Rattle.xl_store.specs.declared.entry.Saved.TheVariants as saved
 use Rattle.xl_store.specs.Entries.{entry_of}
-use Rattle.xl_audit.specs.declared.word.EntryWord.{EntryWord}
-use Rattle.xl_audit.specs.declared.word.EntryWord.TheVariants as word
-use Rattle.xl_audit.specs.declared.written.Written.{Written}
+use Rattle.xl_audit.specs.declared.reading.word.EntryWord.{EntryWord}
+use Rattle.xl_audit.specs.declared.reading.word.EntryWord.TheVariants as word
+use Rattle.xl_audit.specs.declared.texts.written.Written.{Written}
 use Rattle.xl_audit.specs.Rights.{IsAsked}
 use Rattle.xl_audit.specs.Tokens.{moment_of, number_from, id_of, bytes_of, peer_of, outcome_of}
 use Rattle.xl_audit.specs.Words.{first, others, word_at}

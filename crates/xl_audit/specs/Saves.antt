@@ -2,7 +2,7 @@
 use Rattle.std.specs.Prelude.{◌≡◌, ℕ, ◌<◌, Bool, true, false, Some, None}
 use Rattle.std.specs.declared.option.Option.{Option}
 use Rattle.xl_base.specs.Counts.{one_more}
-use Rattle.xl_audit.specs.declared.saving.EntryKeeper.{EntryKeeper}
+use Rattle.xl_audit.specs.declared.auditing.saving.EntryKeeper.{EntryKeeper}
 use Rattle.xl_store.specs.declared.entry.Saved.{Saved}
 use Rattle.xl_store.specs.declared.entry.Saved.TheVariants as saved
 

@@ -12,7 +12,7 @@ use Rattle.xl_core.specs.Core.{Core, core_happens, core_asks}
 use Rattle.xl_core.specs.Replies.{Answers}
 use Rattle.xl_store.specs.declared.entry.Saved.{Saved}
 use Rattle.xl_store.specs.Entries.{save_of}
-use Rattle.xl_audit.specs.declared.tagging.Tagging.{Tagging}
+use Rattle.xl_audit.specs.declared.texts.tagging.Tagging.{Tagging}
 use Rattle.xl_audit.specs.Leading.{IsDeed}
 use Rattle.xl_audit.specs.Rights.{tells_of}
 use Rattle.xl_audit.specs.Untagged.{text_as}

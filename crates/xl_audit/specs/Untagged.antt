@@ -18,9 +18,9 @@ use Rattle.xl_core.specs.declared.event.CoreEvent.TheVariants.{Frame, Drain}
 use Rattle.xl_core.specs.declared.refusal.Refusal.TheVariants.{Tag}
 use Rattle.xl_store.specs.declared.entry.Entry.{Entry}
 use Rattle.xl_store.specs.Entries.{entry_of}
-use Rattle.xl_audit.specs.declared.tagging.Tagging.{Tagging}
-use Rattle.xl_audit.specs.declared.tagging.Tagging.TheVariants.{Tagged, Untagged}
-use Rattle.xl_audit.specs.declared.written.Written.{Written}
+use Rattle.xl_audit.specs.declared.texts.tagging.Tagging.{Tagging}
+use Rattle.xl_audit.specs.declared.texts.tagging.Tagging.TheVariants.{Tagged, Untagged}
+use Rattle.xl_audit.specs.declared.texts.written.Written.{Written}
 use Rattle.xl_audit.specs.Replies.{bytes_text, reply_text}
 
 -- WHAT IS WRITTEN

@@ -7,11 +7,11 @@ use Rattle.xl_lines.specs.Lines.{Line}
 use Rattle.xl_lines.specs.Rules.{Told}
 use Rattle.xl_lines.specs.Told.{told_from}
 use Rattle.xl_sched.specs.declared.refusal.SchedRefusal.{SchedRefusal}
-use Rattle.xl_audit.specs.declared.compared.Likeness.TheVariants.{Short}
-use Rattle.xl_audit.specs.declared.judging.Stage.TheVariants.{Judging}
-use Rattle.xl_audit.specs.declared.tagging.Tagging.{Tagging}
-use Rattle.xl_audit.specs.declared.tagging.Tagging.TheVariants.{Tagged, Untagged}
-use Rattle.xl_audit.specs.declared.written.Written.{Written}
+use Rattle.xl_audit.specs.declared.auditing.compared.Likeness.TheVariants.{Short}
+use Rattle.xl_audit.specs.declared.auditing.judging.Stage.TheVariants.{Judging}
+use Rattle.xl_audit.specs.declared.texts.tagging.Tagging.{Tagging}
+use Rattle.xl_audit.specs.declared.texts.tagging.Tagging.TheVariants.{Tagged, Untagged}
+use Rattle.xl_audit.specs.declared.texts.written.Written.{Written}
 use Rattle.xl_audit.specs.Auditing.{no_line}
 use Rattle.xl_audit.specs.Audits.{all_line, cut_line, limits, rules}
 use Rattle.xl_audit.specs.Cuts.{likeness_at}

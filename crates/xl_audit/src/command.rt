@@ -1,6 +1,6 @@
 ghost use Rattle.xl_audit.specs.Audits.{audit_promise};
 
-use crate::judge::Judge;
+use crate::auditing::judge::Judge;
 use crate::limits::{MOST_BYTES, MOST_LINES};
 use std::alloc::Global;
 use xl_base::OutOfMemory;

@@ -17,49 +17,26 @@
 //! ```
 #![tactic(auto)]
 
-mod allowing;
-mod auditor;
-mod coming;
+mod auditing;
 mod command;
-mod compared;
-mod digits;
-mod entries;
-mod journal;
-mod journal_lines;
-mod judge;
-mod judging;
-mod key_ring;
 mod laws;
 mod limits;
-mod opening;
-mod peering;
-mod peers;
-mod replies;
-mod reply_text;
-mod saving;
-mod stepping;
-mod tagging;
-mod tokens;
-mod untagged;
-mod values;
-mod word;
-mod words;
-mod writing;
-mod written;
+mod reading;
+mod texts;
 
-pub use auditor::Auditor;
+pub use auditing::auditor::Auditor;
+pub use auditing::judge::lead;
+pub use auditing::judging::{BadLine, Lead, Stage, Step, beyond, ended, push_bad};
+pub use auditing::stepping::AuditedCore;
 pub use command::Audit;
-pub use entries::ReadEntry;
-pub use journal_lines::{JournalLines, journal_head};
-pub use judge::lead;
-pub use judging::{BadLine, Lead, Stage, Step, beyond, ended, push_bad};
-pub use key_ring::KeyRing;
 pub use laws::{
     legal_is_right, right_is_legal, untagged_is_legal, whole_texts, written_gets_yes, yes_and_no,
 };
 pub use limits::{MOST_BYTES, MOST_LINES};
-pub use opening::Opening;
-pub use stepping::AuditedCore;
-pub use tagging::Tagging;
-pub use writing::{write_journal, write_untagged_journal};
-pub use written::Written;
+pub use reading::entries::ReadEntry;
+pub use reading::key_ring::KeyRing;
+pub use reading::opening::Opening;
+pub use texts::journal_lines::{JournalLines, journal_head};
+pub use texts::tagging::Tagging;
+pub use texts::writing::{write_journal, write_untagged_journal};
+pub use texts::written::Written;

@@ -12,8 +12,8 @@ use Rattle.xl_sched.specs.Refusals.{code_of, token_of}
 use Rattle.xl_sched.specs.Tokens.{shown_token}
 use Rattle.xl_audit.specs.Auditing.{bad_line, bad_text, beyond, newline}
 use Rattle.xl_audit.specs.Values.{space}
-use Rattle.xl_audit.specs.declared.judging.BadLine.{BadLine}
-use Rattle.xl_audit.specs.declared.judging.BadLine.TheVariants.{Refused, Keyless}
+use Rattle.xl_audit.specs.declared.auditing.judging.BadLine.{BadLine}
+use Rattle.xl_audit.specs.declared.auditing.judging.BadLine.TheVariants.{Refused, Keyless}
 use Rattle.xl_shown.specs.Courses.{CourseStep, passes, shows, course_step, end_of, may_end}
 use Rattle.xl_shown.specs.Courses as course
 use Rattle.xl_shown.specs.declared.course.End.{End}

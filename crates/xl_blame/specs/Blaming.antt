@@ -16,9 +16,9 @@ use Rattle.xl_texts.specs.Promises.{Promise, on, always}
 use Rattle.xl_sched.specs.declared.refusal.SchedRefusal.TheVariants.{Limit}
 use Rattle.xl_audit.specs.Auditing.{bad_line, beyond}
 use Rattle.xl_audit.specs.Limits.{most_bytes, most_lines}
-use Rattle.xl_audit.specs.declared.judging.BadLine.{BadLine}
-use Rattle.xl_audit.specs.declared.judging.BadLine.TheVariants as bad
-use Rattle.xl_audit.specs.declared.judging.Stage.TheVariants.{Heading, Setting}
+use Rattle.xl_audit.specs.declared.auditing.judging.BadLine.{BadLine}
+use Rattle.xl_audit.specs.declared.auditing.judging.BadLine.TheVariants as bad
+use Rattle.xl_audit.specs.declared.auditing.judging.Stage.TheVariants.{Heading, Setting}
 use Rattle.xl_shown.specs.Courses.{CourseStep, passes, shows, course_step, end_of, list_in, may_end}
 use Rattle.xl_shown.specs.Courses as course
 use Rattle.xl_shown.specs.declared.course.Course.{Course}

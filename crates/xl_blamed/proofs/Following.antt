@@ -15,11 +15,11 @@ use Rattle.xl_audit.specs.Leading.{IsAskedIn, Lead, leads, tells, lead}
 use Rattle.xl_audit.specs.Opening.{core_of, unmet}
 use Rattle.xl_audit.specs.Rights.{IsAsked, IsRight, is_right}
 use Rattle.xl_audit.specs.Verdicts.{TellRight, Tells, core_after}
-use Rattle.xl_audit.specs.declared.judging.BadLine.{BadLine}
-use Rattle.xl_audit.specs.declared.judging.Stage.{Stage}
-use Rattle.xl_audit.specs.declared.judging.Stage.TheVariants.{Heading, Setting, Keying, Judging}
-use Rattle.xl_audit.specs.declared.written.Written.{Written}
-use Rattle.xl_audit.specs.declared.opening.Opening.{Opening}
+use Rattle.xl_audit.specs.declared.auditing.judging.BadLine.{BadLine}
+use Rattle.xl_audit.specs.declared.auditing.judging.Stage.{Stage}
+use Rattle.xl_audit.specs.declared.auditing.judging.Stage.TheVariants.{Heading, Setting, Keying, Judging}
+use Rattle.xl_audit.specs.declared.texts.written.Written.{Written}
+use Rattle.xl_audit.specs.declared.reading.opening.Opening.{Opening}
 use Rattle.xl_audit.proofs.Judged.{is_right_of, says_right}
 use Rattle.xl_audit.proofs.Leading.{lead_asked}
 use Rattle.xl_journals.specs.Journals.{Journal}

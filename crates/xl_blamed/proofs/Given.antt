@@ -19,7 +19,7 @@ use Rattle.xl_core.specs.declared.refusal.Refusal.{Refusal}
 use Rattle.xl_store.specs.Entries.{life_of, reply_of, save_of}
 use Rattle.xl_audit.specs.Opening.{core_of}
 use Rattle.xl_audit.specs.Rights.{AreRight, entries_of}
-use Rattle.xl_audit.specs.declared.written.Written.{Written}
+use Rattle.xl_audit.specs.declared.texts.written.Written.{Written}
 use Rattle.xl_world.specs.Lives.{AreUnforged, IsUnforged, first_of, given_by}
 use Rattle.xl_world.proofs.Keeping.{core_keeps}
 use Rattle.xl_journals.specs.Journals.{Journal, life_in, lives_in}

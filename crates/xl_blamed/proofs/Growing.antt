@@ -7,7 +7,7 @@ use Rattle.xl_store.specs.Entries.{IsAllowed, reply_of}
 use Rattle.xl_audit.specs.Opening.{core_of}
 use Rattle.xl_audit.specs.Rights.{AreRight, IsRight}
 use Rattle.xl_audit.specs.Verdicts.{core_after}
-use Rattle.xl_audit.specs.declared.written.Written.{Written}
+use Rattle.xl_audit.specs.declared.texts.written.Written.{Written}
 use Rattle.xl_journals.specs.Journals.{Journal}
 use Rattle.xl_shown.specs.Showing.{shown_of}
 use Rattle.xl_blame.specs.Gathering.{Gathered, with_entry}

@@ -22,11 +22,11 @@ use Rattle.xl_audit.specs.Rights.{IsRight}
 use Rattle.xl_audit.specs.Texts.{TellKeys}
 use Rattle.xl_audit.specs.Verdicts.{Tells, core_after}
 use Rattle.xl_audit.specs.Words.{first, others, tokens, word_at}
-use Rattle.xl_audit.specs.declared.judging.BadLine.TheVariants.{Refused}
-use Rattle.xl_audit.specs.declared.judging.Stage.{Stage}
-use Rattle.xl_audit.specs.declared.judging.Stage.TheVariants.{Heading, Setting, Keying, Judging}
-use Rattle.xl_audit.specs.declared.opening.Opening.{Opening}
-use Rattle.xl_audit.specs.declared.written.Written.{Written}
+use Rattle.xl_audit.specs.declared.auditing.judging.BadLine.TheVariants.{Refused}
+use Rattle.xl_audit.specs.declared.auditing.judging.Stage.{Stage}
+use Rattle.xl_audit.specs.declared.auditing.judging.Stage.TheVariants.{Heading, Setting, Keying, Judging}
+use Rattle.xl_audit.specs.declared.reading.opening.Opening.{Opening}
+use Rattle.xl_audit.specs.declared.texts.written.Written.{Written}
 use Rattle.xl_audit.proofs.Fitting.{Holds, then_, trusted_fits}
 use Rattle.xl_ledger.specs.Limits.{greatest_limit, least_limit}
 use Rattle.xl_journals.specs.Journals.{Journal}

@@ -18,7 +18,7 @@ use Rattle.xl_audit.specs.Auditing.{ended}
 use Rattle.xl_audit.specs.Auditing as step
 use Rattle.xl_audit.specs.Texts.{TellKeys}
 use Rattle.xl_audit.specs.Words.{tokens}
-use Rattle.xl_audit.specs.declared.judging.BadLine.{BadLine}
+use Rattle.xl_audit.specs.declared.auditing.judging.BadLine.{BadLine}
 use Rattle.xl_audit.proofs.Keyed.{no_keys_of, still_own}
 use Rattle.xl_journals.specs.Journals.{Journal}
 use Rattle.xl_forks.specs.Equivocations.{equivocations_in}

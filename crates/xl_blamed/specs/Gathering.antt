@@ -5,7 +5,7 @@ use Rattle.xl_lists.specs.Agreement.{has_said}
 use Rattle.xl_core.specs.Core.{Core}
 use Rattle.xl_store.specs.Entries.{reply_of}
 use Rattle.xl_audit.specs.Opening.{core_of}
-use Rattle.xl_audit.specs.declared.written.Written.{Written}
+use Rattle.xl_audit.specs.declared.texts.written.Written.{Written}
 use Rattle.xl_journals.specs.Journals.{Journal, life_in}
 use Rattle.xl_evidence.specs.Evidence.{shown_by}
 use Rattle.xl_evidence.specs.Journals.{IsRightJournal}

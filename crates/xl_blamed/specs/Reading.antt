@@ -8,8 +8,8 @@ use Rattle.xl_audit.specs.Rights.{IsRight}
 use Rattle.xl_audit.specs.Texts.{TellKeys}
 use Rattle.xl_audit.specs.Verdicts.{TellRight, Tells, core_after}
 use Rattle.xl_audit.specs.Words.{tokens}
-use Rattle.xl_audit.specs.declared.opening.Opening.{Opening}
-use Rattle.xl_audit.specs.declared.written.Written.{Written}
+use Rattle.xl_audit.specs.declared.reading.opening.Opening.{Opening}
+use Rattle.xl_audit.specs.declared.texts.written.Written.{Written}
 use Rattle.xl_journals.specs.Journals.{Journal}
 use Rattle.xl_shown.specs.declared.course.End.{End}
 use Rattle.xl_shown.specs.declared.course.Judged.{Judged}

@@ -8,7 +8,7 @@ use Rattle.xl_core.specs.declared.event.CoreEvent.{CoreEvent}
 use Rattle.xl_core.specs.declared.event.CoreEvent.TheVariants.{Relist}
 use Rattle.xl_store.specs.Entries.{IsAllowed, life_of, reply_of}
 use Rattle.xl_audit.specs.Rights.{AreRight, entries_of}
-use Rattle.xl_audit.specs.declared.written.Written.{Written}
+use Rattle.xl_audit.specs.declared.texts.written.Written.{Written}
 use Rattle.xl_world.specs.Lives.{IsLife, AreLives}
 use Rattle.xl_world.specs.World.{IsFitEvent}
 use Rattle.xl_world.proofs.Lives.{headline_of_lives}

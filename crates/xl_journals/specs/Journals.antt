@@ -6,8 +6,8 @@ use Rattle.xl_tags.specs.Rings.{Ring}
 use Rattle.xl_store.specs.Entries.{life_of}
 use Rattle.xl_audit.specs.Opening.{core_of, settings_of}
 use Rattle.xl_audit.specs.Rights.{AreRight, entries_of}
-use Rattle.xl_audit.specs.declared.opening.Opening.{Opening}
-use Rattle.xl_audit.specs.declared.written.Written.{Written}
+use Rattle.xl_audit.specs.declared.reading.opening.Opening.{Opening}
+use Rattle.xl_audit.specs.declared.texts.written.Written.{Written}
 use Rattle.xl_world.specs.Lives.{Life, AreUnforged, NeverBehind, reports_of}
 
 -- a journal as it is read: the settings, the keys, and the entries with their replies

@@ -10,7 +10,7 @@ use Rattle.xl_store.specs.declared.retention.Retention.TheVariants.{Passing}
 use Rattle.xl_store.specs.Entries.{Leads}
 use Rattle.xl_store.specs.Recording.{Records, all_batches}
 use Rattle.xl_store.specs.Retentions.{from_place, through_reports}
-use Rattle.xl_audit.specs.declared.tagging.Tagging.{Tagging}
+use Rattle.xl_audit.specs.declared.texts.tagging.Tagging.{Tagging}
 use Rattle.xl_audit.specs.Journals.{journal_text_as, start_of}
 use Rattle.xl_audit.specs.Lines.{Lines, behind_all, lines_with}
 use Rattle.xl_recorder.specs.declared.file_recorder.FileRecorder.{FileRecorder}

@@ -4,8 +4,8 @@ use Rattle.std.specs.Prelude.{IfSome, if◌then◌else◌}
 use Rattle.xl_core.specs.Core.{Core}
 use Rattle.xl_store.specs.Entries.{reply_of}
 use Rattle.xl_audit.specs.Rights.{is_right}
-use Rattle.xl_audit.specs.declared.judging.Stage.TheVariants.{Judging}
-use Rattle.xl_audit.specs.declared.written.Written.{Written}
+use Rattle.xl_audit.specs.declared.auditing.judging.Stage.TheVariants.{Judging}
+use Rattle.xl_audit.specs.declared.texts.written.Written.{Written}
 use Rattle.xl_shown.specs.Courses.{passes, shows, told_at}
 use Rattle.xl_shown.specs.Showing.{shown_if_right, shown_of}
 use Rattle.xl_shown.specs.declared.course.Course.TheVariants.{Goes, Failed}

@@ -12,11 +12,11 @@ use Rattle.xl_audit.specs.Auditing as step
 use Rattle.xl_audit.specs.Judging.{IsReady, IsReady-prop, entries_of}
 use Rattle.xl_audit.specs.Leading.{Lead, leads, tells, lead}
 use Rattle.xl_audit.specs.Rights.{is_right}
-use Rattle.xl_audit.specs.declared.judging.BadLine.{BadLine}
-use Rattle.xl_audit.specs.declared.judging.BadLine.TheVariants as bad
-use Rattle.xl_audit.specs.declared.judging.Stage.{Stage}
-use Rattle.xl_audit.specs.declared.judging.Stage.TheVariants.{Heading, Setting, Keying, Judging}
-use Rattle.xl_audit.specs.declared.written.Written.{Written}
+use Rattle.xl_audit.specs.declared.auditing.judging.BadLine.{BadLine}
+use Rattle.xl_audit.specs.declared.auditing.judging.BadLine.TheVariants as bad
+use Rattle.xl_audit.specs.declared.auditing.judging.Stage.{Stage}
+use Rattle.xl_audit.specs.declared.auditing.judging.Stage.TheVariants.{Heading, Setting, Keying, Judging}
+use Rattle.xl_audit.specs.declared.texts.written.Written.{Written}
 use Rattle.xl_shown.specs.Showing.{shown_of}
 use Rattle.xl_shown.specs.declared.course.Came.{Came}
 use Rattle.xl_shown.specs.declared.course.Came.TheVariants as came

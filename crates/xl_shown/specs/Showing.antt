@@ -23,7 +23,7 @@ use Rattle.xl_core.specs.declared.timer_answer.Issued.TheVariants as issued
 use Rattle.xl_core.specs.declared.timer_answer.TimerAnswer.{TimerAnswer}
 use Rattle.xl_core.specs.declared.timer_answer.TimerAnswer.TheVariants as timer_answer
 use Rattle.xl_store.specs.Entries.{reply_of}
-use Rattle.xl_audit.specs.declared.written.Written.{Written}
+use Rattle.xl_audit.specs.declared.texts.written.Written.{Written}
 use Rattle.xl_audit.specs.Rights.{is_right}
 use Rattle.xl_shown.specs.declared.hearing.Heard.{Heard}
 use Rattle.xl_shown.specs.declared.shown.Shown.{Shown}

@@ -9,8 +9,8 @@ use Rattle.xl_store.specs.declared.entry.Entry.{Entry}
 use Rattle.xl_store.specs.declared.retention.Batch.{Batch}
 use Rattle.xl_store.specs.declared.retention.Retention.{Retention}
 use Rattle.xl_store.specs.declared.retention.Retention.TheVariants.{Nothing, Whole, Passing}
-use Rattle.xl_audit.specs.declared.tagging.Tagging.{Tagging}
-use Rattle.xl_audit.specs.declared.tagging.Tagging.TheVariants.{Tagged, Untagged}
+use Rattle.xl_audit.specs.declared.texts.tagging.Tagging.{Tagging}
+use Rattle.xl_audit.specs.declared.texts.tagging.Tagging.TheVariants.{Tagged, Untagged}
 use Rattle.xl_recorder.specs.declared.file_recorder.FileRecorder.{FileRecorder}
 use Rattle.xl_recorder.specs.declared.record_end.RecordEnd.{RecordEnd}
 use Rattle.xl_recorder.specs.declared.record_end.RecordEnd.TheVariants.{Write, Memory}

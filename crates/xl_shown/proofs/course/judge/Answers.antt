@@ -1,8 +1,8 @@
 -- what the right entry shows is told of the stage that was read
 use Rattle.std.proofs.Common.{◌∙◌, ap, sym}
 use Rattle.xl_audit.specs.Laws.{written_with}
-use Rattle.xl_audit.specs.declared.judging.Stage.{Stage}
-use Rattle.xl_audit.specs.declared.written.Written.{Written}
+use Rattle.xl_audit.specs.declared.auditing.judging.Stage.{Stage}
+use Rattle.xl_audit.specs.declared.texts.written.Written.{Written}
 use Rattle.xl_shown.specs.Courses.{told_at}
 use Rattle.xl_shown.proofs.Courses.{told_right}
 use Rattle.xl_shown.proofs.course.judge.Goals as goal

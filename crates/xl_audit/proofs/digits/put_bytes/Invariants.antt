@@ -1,6 +1,0 @@
-use Rattle.xl_audit.proofs.Pairing.{IsDecoded}
-use Rattle.xl_audit.proofs.digits.put_bytes.Given as goal
-
--- the pairs so far are decoded
-abbrev pub invariant-bytes : goal.invariant-bytes
-invariant-bytes l = IsDecoded l.digits l.room l.i
