@@ -14,12 +14,12 @@ use Rattle.xl_sched.specs.declared.event.What.{What}
 use Rattle.xl_sched.specs.declared.event.What.TheVariants.{Timers, Submit, All as AllCome}
 use Rattle.xl_sched.specs.Reading.{opened}
 use Rattle.xl_world.specs.declared.plan.InForce.{InForce}
-use Rattle.xl_world.specs.Forks.{Fork, IsFork, first_fork}
+use Rattle.xl_reports.specs.Forks.{Fork, IsFork, first_fork}
 use Rattle.xl_world.specs.Plans.{IsDeclared, AreDeclared, Shared, up_from}
 use Rattle.xl_world.specs.Schedule.{IsPlausible, after_event, outcomes, steps_of}
 use Rattle.xl_world.specs.Starts.{list_of}
 use Rattle.xl_world.specs.World.{World, Step, AreFit, IsFit, run}
-use Rattle.xl_world.proofs.Differing.{fork_differs}
+use Rattle.xl_reports.proofs.Differing.{fork_differs}
 use Rattle.xl_world.proofs.Fitting.{OfList, steps_fit}
 use Rattle.xl_world.proofs.Listing.{HasLists, at_node, run_has_lists}
 use Rattle.xl_world.proofs.Lists.{core_headline}

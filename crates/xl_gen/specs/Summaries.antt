@@ -6,7 +6,7 @@ use Rattle.xl_sched.specs.declared.event.Event.{Event}
 use Rattle.xl_sched.specs.Reading.{opened}
 use Rattle.xl_world.specs.declared.outcome.Outcome.{Outcome}
 use Rattle.xl_world.specs.declared.outcome.Outcome.TheVariants.{Built, Refused}
-use Rattle.xl_world.specs.Forks.{first_fork}
+use Rattle.xl_reports.specs.Forks.{first_fork}
 use Rattle.xl_world.specs.World.{World}
 use Rattle.xl_replay.specs.Headlines.{full_of, is_full}
 use Rattle.xl_replay.specs.Replays.{verdict_of}

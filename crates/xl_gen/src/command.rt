@@ -12,8 +12,8 @@ use std::alloc::Global;
 use xl_base::OutOfMemory;
 use xl_io::Sink;
 use xl_lines::{Fault, Verdict};
+use xl_reports::first_fork;
 use xl_texts::say;
-use xl_world::first_fork;
 
 /// More rounds aren't made: each node has room for 1,024 ledgers.
 pub const MOST_ROUNDS: u32 = 1_000;

@@ -5,16 +5,17 @@ ghost use Rattle.xl_gen.specs.Sizes.{most_rounds};
 ghost use Rattle.xl_gen.specs.Schedule.{lines as lines_of_schedule, second_lines};
 ghost use Rattle.xl_gen.specs.Summaries.{counts_text, summary_of};
 ghost use Rattle.xl_sched.specs.Reading.{opened};
-ghost use Rattle.xl_world.specs.Forks.{first_fork};
-ghost use Rattle.xl_world.specs.Seen.{fork_seen};
+ghost use Rattle.xl_reports.specs.Forks.{first_fork};
+ghost use Rattle.xl_reports.specs.Seen.{fork_seen};
 
 use crate::counts::Counts;
 use std::alloc::Global;
 use std::fmt::Write;
 use xl_base::OutOfMemory;
 use xl_replay::push_end;
+use xl_reports::Fork;
 use xl_sched::Reader;
-use xl_world::{Fork, World};
+use xl_world::World;
 
 /// How many lines a second of the schedule has.
 fn second_lines(second: u32) -> u32

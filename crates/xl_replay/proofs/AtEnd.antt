@@ -5,7 +5,7 @@ use Rattle.xl_lines.specs.declared.machine.Verdict.TheVariants.{Refused as IsRef
 use Rattle.xl_lines.specs.Rules.{closes}
 use Rattle.xl_lines.specs.Ends.{FindsAtEnd}
 use Rattle.xl_sched.specs.declared.refusal.SchedRefusal.TheVariants.{Header}
-use Rattle.xl_world.specs.Forks.{first_fork}
+use Rattle.xl_reports.specs.Forks.{first_fork}
 use Rattle.xl_running.specs.Texts.{bad_line}
 use Rattle.xl_replay.specs.Texts.{end_lines}
 use Rattle.xl_running.specs.Running.{Running, answer_in, world_of}

@@ -20,7 +20,7 @@ use Rattle.xl_sched.specs.Refusals.{code_of, token_of}
 use Rattle.xl_sched.specs.Tokens.{shown_token}
 use Rattle.xl_world.specs.declared.outcome.Outcome.{Outcome}
 use Rattle.xl_world.specs.declared.outcome.Outcome.TheVariants.{Switched, Built, Refused, Full, Preferred, Heard}
-use Rattle.xl_world.specs.Forks.{Fork, first_fork}
+use Rattle.xl_reports.specs.Forks.{Fork, first_fork}
 use Rattle.xl_world.specs.World.{World}
 use Rattle.xl_running.specs.Texts.{bad_line, id_text, newline, space}
 use Rattle.xl_replay.specs.Texts.{values_text, preferred_text, heard_text, how_text, outcome_line, forged_line, agreement_line}

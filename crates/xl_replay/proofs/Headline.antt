@@ -14,7 +14,7 @@ use Rattle.xl_lines.specs.Rules.{Told, closes}
 use Rattle.xl_sched.specs.declared.refusal.SchedRefusal.TheVariants.{Header}
 use Rattle.xl_world.specs.declared.outcome.Outcome.{Outcome}
 use Rattle.xl_world.specs.declared.outcome.Outcome.TheVariants.{Full}
-use Rattle.xl_world.specs.Forks.{first_fork}
+use Rattle.xl_reports.specs.Forks.{first_fork}
 use Rattle.xl_world.specs.World.{World}
 use Rattle.xl_world.specs.Starts.{IsRun}
 use Rattle.xl_world.proofs.Lists.{world_agrees}

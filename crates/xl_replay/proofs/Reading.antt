@@ -26,7 +26,7 @@ use Rattle.xl_sched.specs.Names.{id_named, id_written, is_letter, is_name, ledge
 use Rattle.xl_sched.specs.Tokens.{shown_byte, shown_token}
 use Rattle.xl_world.specs.declared.outcome.Outcome.{Outcome}
 use Rattle.xl_world.specs.declared.outcome.Outcome.TheVariants.{Full}
-use Rattle.xl_world.specs.Forks.{Fork, first_fork}
+use Rattle.xl_reports.specs.Forks.{Fork, first_fork}
 use Rattle.xl_running.specs.Running.{Running, answer_in, at_first, knows, limits, world_of}
 use Rattle.xl_running.specs.Texts.{id_text, named_text, newline, space}
 use Rattle.xl_running.proofs.Naming.{AnswerNames, AreNames, StandsForOne, reading_names, root_names}

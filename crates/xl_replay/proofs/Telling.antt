@@ -40,7 +40,7 @@ use Rattle.xl_world.specs.declared.place.Place.{Place}
 use Rattle.xl_world.specs.declared.place.Fate.{Fate}
 use Rattle.xl_io.specs.Keepers.{may_hold}
 use Rattle.xl_world.specs.Disk.{held_by, answer_of}
-use Rattle.xl_world.specs.Forks.{Fork, first_fork}
+use Rattle.xl_reports.specs.Forks.{Fork, first_fork}
 use Rattle.xl_world.specs.World.{reported_by}
 use Rattle.xl_world.specs.World.{World, Step as WorldStep, Act, Again, Torn, Mark, place_at, reply_at, acts, reopened_world, again, torn_world, asked_at, moment_in, step, run}
 use Rattle.xl_world.specs.Schedule.{IsPlausible, steps_at, after_event, told_of_reply as told_at, told_of_step as told_by_step, told_in, told_of_issued, told_of_beat, told_of_answer, hearsay, hearsay_of, preference, outcomes_at, outcomes}

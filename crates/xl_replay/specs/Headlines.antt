@@ -15,7 +15,7 @@ use Rattle.xl_lines.specs.Rules.{Step, goes_on, refuses, finds, Told}
 use Rattle.xl_lines.specs.Told.{step_at}
 use Rattle.xl_world.specs.declared.outcome.Outcome.{Outcome}
 use Rattle.xl_world.specs.declared.outcome.Outcome.TheVariants.{Full}
-use Rattle.xl_world.specs.Forks.{first_fork}
+use Rattle.xl_reports.specs.Forks.{first_fork}
 use Rattle.xl_world.specs.World.{World}
 use Rattle.xl_running.specs.Running.{Running, at_first, limits, world_of}
 use Rattle.xl_replay.specs.Replays.{rules, verdict_of}

@@ -10,7 +10,7 @@ use Rattle.xl_sched.specs.declared.event.Event.{Event}
 use Rattle.xl_sched.specs.declared.line.Line.{Line}
 use Rattle.xl_sched.specs.declared.refusal.SchedRefusal.TheVariants.{Header}
 use Rattle.xl_sched.specs.Answers.{LineAnswer}
-use Rattle.xl_world.specs.Forks.{Fork, first_fork}
+use Rattle.xl_reports.specs.Forks.{Fork, first_fork}
 use Rattle.xl_world.specs.Schedule.{outcomes}
 use Rattle.xl_running.specs.Running.{Running, answer_in, at_first, beyond, happens, limits, world_of}
 use Rattle.xl_running.specs.Stepping.{after_answer as after_answer_in, after_line as after_line_in}

@@ -23,7 +23,7 @@ use Rattle.xl_sched.specs.declared.named.Named.{Named}
 use Rattle.xl_world.specs.declared.outcome.Outcome.{Outcome}
 use Rattle.xl_world.specs.declared.outcome.Outcome.TheVariants.{Switched, Built, Refused, Full, Preferred, Heard}
 use Rattle.xl_world.specs.declared.plan.InForce.{InForce}
-use Rattle.xl_world.specs.Forks.{Fork, first_fork}
+use Rattle.xl_reports.specs.Forks.{Fork, first_fork}
 use Rattle.xl_world.specs.World.{World}
 use Rattle.xl_world.specs.Plans.{up_from, all_numbers}
 use Rattle.xl_running.specs.Texts.{id_text, newline, space}

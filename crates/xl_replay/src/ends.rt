@@ -2,8 +2,8 @@
 ghost use Rattle.std.specs.Prelude.{◌≡◌, ◌≤◌, ◌++◌, ◌==◌, ◌&&◌, is_some, position, OnOk, option_copied, option_map};
 ghost use Rattle.std.specs.List.{list_any};
 ghost use Rattle.std.specs.String.{string_bytes};
-ghost use Rattle.xl_world.specs.Forks.{first_fork};
-ghost use Rattle.xl_world.specs.Seen.{fork_seen};
+ghost use Rattle.xl_reports.specs.Forks.{first_fork};
+ghost use Rattle.xl_reports.specs.Seen.{fork_seen};
 ghost use Rattle.xl_replay.specs.Texts.{is_short, short_at, short_of, short_pair, short_with, shorts_of};
 ghost use Rattle.xl_replay.specs.Texts.{short_lines, forged_line, agreement_line, end_lines};
 ghost use Rattle.xl_base.specs.Members.{greatest_node_no};
@@ -12,9 +12,10 @@ use std::alloc::Global;
 use std::fmt::Write;
 use xl_base::{GREATEST_NODE_NO, NodeNo, OutOfMemory};
 use xl_lists::{List, bound};
+use xl_reports::Fork;
 use xl_running::push_id;
 use xl_sched::Reader;
-use xl_world::{Fork, InForce, World};
+use xl_world::{InForce, World};
 
 /// Whether the quorums of two lists aren't enough.
 fn is_short(liars: &[NodeNo], a: &List, b: &List) -> bool

@@ -8,9 +8,9 @@ use crate::outcomes::push_outcomes;
 use std::alloc::Global;
 use xl_base::OutOfMemory;
 use xl_lines::{Machine, Next, Overrun, Verdict};
+use xl_reports::first_fork;
 use xl_running::{Running, beyond, push_bad};
 use xl_sched::{Event, Line, SchedRefusal};
-use xl_world::first_fork;
 
 /// A schedule that runs, and is told.
 #[derive(Drop)]

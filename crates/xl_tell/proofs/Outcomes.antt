@@ -16,7 +16,7 @@ use Rattle.xl_sched.specs.Tokens.{shown_token}
 use Rattle.xl_world.specs.declared.outcome.Outcome.{Outcome}
 use Rattle.xl_world.specs.declared.outcome.Outcome.TheVariants.{Switched, Built, Refused, Full, Preferred, Heard}
 use Rattle.xl_world.specs.declared.plan.InForce.{InForce}
-use Rattle.xl_world.specs.Forks.{Fork, first_fork}
+use Rattle.xl_reports.specs.Forks.{Fork, first_fork}
 use Rattle.xl_world.specs.Plans.{all_numbers, up_from}
 use Rattle.xl_world.specs.World.{World}
 use Rattle.xl_tell.proofs.Leaving.{Leaves, both, each, nothing, reported}

@@ -22,7 +22,7 @@ use Rattle.xl_sched.specs.declared.named.Named.{Named}
 use Rattle.xl_sched.specs.declared.refusal.SchedRefusal.TheVariants.{Header}
 use Rattle.xl_sched.specs.Answers.{LineAnswer, passes, gives, refuses}
 use Rattle.xl_world.specs.declared.outcome.Outcome.{Outcome}
-use Rattle.xl_world.specs.Forks.{first_fork}
+use Rattle.xl_reports.specs.Forks.{first_fork}
 use Rattle.xl_world.specs.Parts.{outcomes_in, parts_of}
 use Rattle.xl_world.specs.Schedule.{after_event, outcomes}
 use Rattle.xl_world.specs.World.{World}

@@ -15,9 +15,6 @@ pub mod Agreeing
 pub mod Numbers
 pub mod Each
 pub mod Places
-pub mod Opposing
-pub mod Firsts
-pub mod Differing
 pub mod Reporters
 pub mod Forging
 pub mod Indexing

@@ -11,8 +11,6 @@ pub mod Headline
 pub mod Emptying
 pub mod Rested
 pub mod Schedule
-pub mod Forks
-pub mod Firsts
 pub mod Seen
 pub mod Indexes
 pub mod Worlds

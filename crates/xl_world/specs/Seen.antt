@@ -32,7 +32,6 @@ use Rattle.xl_wire.specs.Heads.Split.{Whole}
 use Rattle.xl_wire.specs.Kinds.{span}
 use Rattle.xl_wire.specs.Raws.{RawFrame, SpellsRaw}
 use Rattle.xl_world.specs.declared.act.NodeAnswer.{NodeAnswer}
-use Rattle.xl_world.specs.declared.fork.Fork.{Fork}
 use Rattle.xl_world.specs.declared.outcome.Outcome.{Outcome}
 use Rattle.xl_world.specs.declared.outcome.Outcome.TheVariants.{Full}
 use Rattle.xl_world.specs.declared.place.Fate.{Fate}
@@ -43,13 +42,9 @@ use Rattle.xl_world.specs.declared.saving.Fated.{Fated}
 use Rattle.xl_world.specs.Sending.{Sent}
 use Rattle.xl_world.specs.Emptying.{after_events, drains_of, given_by, handed_out}
 use Rattle.xl_world.specs.Forgeries.{forges}
-use Rattle.xl_world.specs.Forks as Forks
 use Rattle.xl_world.specs.Disk.{after_save, answer_of}
 use Rattle.xl_world.specs.Schedule.{told_of_answer}
 use Rattle.xl_world.specs.World.{World, core_again, disk_after, place_at, put_place, reply_at, reported_by, said_by, set_by}
-
-abbrev pub fork_seen : Fork → Forks.Fork
-fork_seen f = record { earlier = f.earlier.now; later = f.later.now }
 
 -- whether the second report, if it is of j and of the first one's sequence, has its id
 abbrev pub agrees_at : ℕ → Reported → Reported → Bool

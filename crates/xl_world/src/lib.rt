@@ -28,7 +28,6 @@ mod anew;
 mod draining;
 mod extent;
 mod forged;
-mod fork;
 mod frames;
 mod hearing;
 mod index;
@@ -49,7 +48,6 @@ mod settle;
 mod traffic;
 mod world;
 
-pub use fork::{Fork, first_fork, law_of_forks};
 pub use frames::SentFrames;
 pub use laws::{law_of_drains, law_of_lives, law_of_networks};
 pub use lie::put_lie;

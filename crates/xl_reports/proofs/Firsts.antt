@@ -10,9 +10,9 @@ use Rattle.std.proofs.lemmas.List.{take_more, drop_all}
 use Rattle.std.proofs.lemmas.Bool.{cond_both}
 use Rattle.xl_base.specs.Ids.{same_id}
 use Rattle.xl_lists.specs.declared.report.Report.{Report}
-use Rattle.xl_world.specs.Forks.{first_fork, fork_after}
-use Rattle.xl_world.specs.Firsts.{first_at}
-use Rattle.xl_world.proofs.Opposing.{Ahead, fork_of, ahead_of_all, repeated, begun, found}
+use Rattle.xl_reports.specs.Forks.{first_fork, fork_after}
+use Rattle.xl_reports.specs.Firsts.{first_at}
+use Rattle.xl_reports.proofs.Opposing.{Ahead, fork_of, ahead_of_all, repeated, begun, found}
 
 -- so many reports were looked at
 abbrev pub AheadAt : List Report → ℕ → BTreeMap ℕ (Bor Report) → Type 0

@@ -1,10 +1,10 @@
 use Rattle.std.proofs.Common.{◌≡◌, ◌+◌, ap, sym, ◌∙◌, subst, refl, Some}
 use Rattle.std.specs.Prelude.{option_map}
 use Rattle.std.proofs.lemmas.Bool.{not-true, not-false}
-use Rattle.xl_world.specs.Firsts.{first_at}
-use Rattle.xl_world.proofs.Firsts.{AheadAt, begins, repeats, adds, finds, ends}
-use Rattle.xl_world.proofs.fork.first_fork.Goals as goal
-use Rattle.xl_world.proofs.fork.first_fork.Goals.{in-Some-2, in-None+in_ok-insert-in-None}
+use Rattle.xl_reports.specs.Firsts.{first_at}
+use Rattle.xl_reports.proofs.Firsts.{AheadAt, begins, repeats, adds, finds, ends}
+use Rattle.xl_reports.proofs.fork.first_fork.Goals as goal
+use Rattle.xl_reports.proofs.fork.first_fork.Goals.{in-Some-2, in-None+in_ok-insert-in-None}
 
 pub loop-later-init : goal.loop-later-init
 loop-later-init c = (begins c.args.reports.now c.new-firsts.result c.new-firsts.ensures.empty, tt)

@@ -9,8 +9,8 @@ use Rattle.std.proofs.lemmas.List.Elements.{All-nil, All-cons, All-push, All-wea
 use Rattle.xl_base.specs.Ids.{same_id}
 use Rattle.xl_lists.specs.declared.report.Report.{Report}
 use Rattle.xl_lists.proofs.Agreement.{same_id-true, same_id_itself}
-use Rattle.xl_world.specs.Forks.{Fork, opposing_report, fork_after, IsFork, NoForkAgrees, ForkDiffers}
-use Rattle.xl_world.proofs.Opposing.{fork_of}
+use Rattle.xl_reports.specs.Forks.{Fork, opposing_report, fork_after, IsFork, NoForkAgrees, ForkDiffers}
+use Rattle.xl_reports.proofs.Opposing.{fork_of}
 
 -- what is not found fails the test everywhere
 none_passes : {X : Type 0} (test : X → Bool) (xs : List X) → find test xs ≡ None → All (λ x. test x ≡ false) xs

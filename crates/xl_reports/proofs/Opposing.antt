@@ -7,7 +7,7 @@ use Rattle.std.proofs.lemmas.List.Folds.{find-append}
 use Rattle.xl_base.specs.Ids.{same_id}
 use Rattle.xl_lists.specs.declared.report.Report.{Report}
 use Rattle.xl_lists.proofs.Agreement.{same_id-true}
-use Rattle.xl_world.specs.Forks.{Fork, opposing_report, fork_after, first_fork}
+use Rattle.xl_reports.specs.Forks.{Fork, opposing_report, fork_after, first_fork}
 
 abbrev pub fork_of : Report → Report → Fork
 fork_of earlier later = record { earlier = earlier; later = later }

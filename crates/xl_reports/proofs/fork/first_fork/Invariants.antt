@@ -1,7 +1,7 @@
 use Rattle.std.specs.Prelude.{◌≡◌, Some, IfSome}
-use Rattle.xl_world.specs.Firsts.{first_at}
-use Rattle.xl_world.proofs.Firsts.{AheadAt}
-use Rattle.xl_world.proofs.fork.first_fork.Given as goal
+use Rattle.xl_reports.specs.Firsts.{first_at}
+use Rattle.xl_reports.proofs.Firsts.{AheadAt}
+use Rattle.xl_reports.proofs.fork.first_fork.Given as goal
 
 -- what was found last is the first report of its sequence
 abbrev pub invariant-loop-later : goal.invariant-loop-later

@@ -1,5 +1,5 @@
-use Rattle.xl_world.proofs.Differing.{no_fork_agrees, fork_differs}
-use Rattle.xl_world.proofs.fork.law_of_forks.Goals as goal
+use Rattle.xl_reports.proofs.Differing.{no_fork_agrees, fork_differs}
+use Rattle.xl_reports.proofs.fork.law_of_forks.Goals as goal
 
 pub returns-clause-none : goal.returns-clause-none
 returns-clause-none c = no_fork_agrees

@@ -1,0 +1,3 @@
+pub mod Opposing
+pub mod Firsts
+pub mod Differing

@@ -1,0 +1,3 @@
+pub mod Forks
+pub mod Firsts
+pub mod Seen
